@@ -1,0 +1,3 @@
+pub mod HashLaws
+pub mod NumberLaws
+pub mod OrderLaws

@@ -1,0 +1,6 @@
+pub mod Answers
+pub mod Asks
+pub mod Hashes
+pub mod Numbers
+pub mod Orders
+pub mod Says

@@ -1,0 +1,5 @@
+pub mod Bytes
+pub mod Order
+pub mod Guards
+pub mod Tab
+pub mod Flat

@@ -1,0 +1,13 @@
+pub mod BitLaws
+pub mod FormLaws
+pub mod WindowLaws
+pub mod WalkLaws
+pub mod SpanLaws
+pub mod TestLaws
+pub mod RangeLaws
+pub mod MaskLaws
+pub mod CountLaws
+pub mod EdgeLaws
+pub mod MergeLaws
+pub mod ResultLaws
+pub mod JoinLaws

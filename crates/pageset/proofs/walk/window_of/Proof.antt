@@ -1,0 +1,13 @@
+-- The test picks the case. Assumes nothing.
+use borrow.Author.Tests.{eq-eqb, ne-eqb}
+use Rattle.pageset.proofs.walk.window_of.Statement.{statement}
+use Rattle.pageset.proofs.walk.window_of.Tie as tie
+
+returns : tie.Need-returns
+returns c = rw (eq-eqb _ _ (c .if1 .taken))
+
+returns-2 : tie.Need-returns-2
+returns-2 c = rw (ne-eqb _ _ (c .if1 .left))
+
+pub window-of-spec : {M : Type 1} → statement M
+window-of-spec = tie.close (tie.spec returns returns-2)

@@ -1,0 +1,5 @@
+pub mod Sets
+pub mod Windows
+pub mod Counts
+pub mod Rules
+pub mod Says
