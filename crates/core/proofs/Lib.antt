@@ -1,3 +1,4 @@
+pub mod AskLaws
 pub mod HashLaws
 pub mod NumberLaws
 pub mod OrderLaws

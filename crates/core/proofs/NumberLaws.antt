@@ -5,21 +5,14 @@ use mathlib.Core.Option.{none, some}
 use native.Mathlib.Omega.{arith}
 use borrow.Author.Tests.{lt-ltb, le-ltb}
 use lib.Dec.{ltb}
-use Rattle.core.specs.Answers.{Answer, refused, done, ask, _>>_}
+use Rattle.core.specs.Answers.{refused, done}
 use Rattle.core.specs.Numbers.{lastLsn, lastPage, nextLsn, prevLsn, nextLsnOrLast, prevLsnOrFirst, nextPage, prevPage, endPage}
-
-module _ {A : Type 0} (n : ℕ) (k : Answer A) where
-  -- 0 is refused as 1
-  pub zero-refused : n ≡ 0 → refused 1 ≡ ask (ltb 0 n) 1 >> k
-  zero-refused e = rw (le-ltb 0 n (omega arith))
-
-  pub past-zero : (n ≡ 0 → ⊥) → k ≡ ask (ltb 0 n) 1 >> k
-  past-zero h = let l : 0 < n = omega arith in rw (lt-ltb 0 n l)
+use Rattle.core.proofs.AskLaws.{zero-stopped, zero-passed}
 
 module _ (n : ℕ) where
   pub next-zero : n ≡ 0 → refused 1 ≡ nextLsn n
   unfolding nextLsn
-  next-zero e = zero-refused n _ e
+  next-zero e = zero-stopped _ n e
 
   pub next-last : n ≡ lastLsn → refused 18 ≡ nextLsn n
   unfolding nextLsn lastLsn
@@ -31,7 +24,7 @@ module _ (n : ℕ) where
 
   pub prev-zero : n ≡ 0 → refused 1 ≡ prevLsn n
   unfolding prevLsn
-  prev-zero e = zero-refused n _ e
+  prev-zero e = zero-stopped _ n e
 
   pub prev-first : n ≡ 1 → done none ≡ prevLsn n
   unfolding prevLsn
@@ -43,35 +36,35 @@ module _ (n : ℕ) where
 
   pub next-or-zero : n ≡ 0 → refused 1 ≡ nextLsnOrLast n
   unfolding nextLsnOrLast
-  next-or-zero e = zero-refused n _ e
+  next-or-zero e = zero-stopped _ n e
 
   pub next-or : (m : ℕ) → (n ≡ 0 → ⊥) → m ≡ min (n + 1) lastLsn → done m ≡ nextLsnOrLast n
   unfolding nextLsnOrLast
-  next-or m h e = ap done e ∙ past-zero n _ h
+  next-or m h e = ap done e ∙ zero-passed _ n h
 
   pub prev-or-zero : n ≡ 0 → refused 1 ≡ prevLsnOrFirst n
   unfolding prevLsnOrFirst
-  prev-or-zero e = zero-refused n _ e
+  prev-or-zero e = zero-stopped _ n e
 
   pub prev-or : (m : ℕ) → (n ≡ 0 → ⊥) → m ≡ max (n - 1) 1 → done m ≡ prevLsnOrFirst n
   unfolding prevLsnOrFirst
-  prev-or m h e = ap done e ∙ past-zero n _ h
+  prev-or m h e = ap done e ∙ zero-passed _ n h
 
   pub next-page-zero : n ≡ 0 → refused 1 ≡ nextPage n
   unfolding nextPage
-  next-page-zero e = zero-refused n _ e
+  next-page-zero e = zero-stopped _ n e
 
   pub next-page : (m : ℕ) → (n ≡ 0 → ⊥) → m ≡ min (n + 1) lastPage → done m ≡ nextPage n
   unfolding nextPage
-  next-page m h e = ap done e ∙ past-zero n _ h
+  next-page m h e = ap done e ∙ zero-passed _ n h
 
   pub prev-page-zero : n ≡ 0 → refused 1 ≡ prevPage n
   unfolding prevPage
-  prev-page-zero e = zero-refused n _ e
+  prev-page-zero e = zero-stopped _ n e
 
   pub prev-page : (m : ℕ) → (n ≡ 0 → ⊥) → m ≡ max (n - 1) 1 → done m ≡ prevPage n
   unfolding prevPage
-  prev-page m h e = ap done e ∙ past-zero n _ h
+  prev-page m h e = ap done e ∙ zero-passed _ n h
 
   pub end-none : n ≡ 0 → none ≡ endPage n
   unfolding endPage

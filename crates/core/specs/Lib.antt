@@ -1,5 +1,4 @@
 pub mod Answers
-pub mod Asks
 pub mod Hashes
 pub mod Numbers
 pub mod Orders

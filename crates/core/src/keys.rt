@@ -35,13 +35,7 @@ pub struct TagName {
 fn compare_numbers(x: u64, y: u64) -> Order
     ensures { λ r. ⌜ ordering r ≡ up x y ⌝ }
 {
-    if x < y {
-        return Order::Less;
-    }
-    if y < x {
-        return Order::Greater;
-    }
-    Order::Equal
+    octets::compare_numbers(x, y)
 }
 
 // What the first field says, or where that is Equal the second.

@@ -147,8 +147,8 @@ pub fn store_hash(s: &mut [u8], at: usize, hash: [u8; 32])
     store_all(s, at, &hash)
 }
 
-// How two words stand.
-fn compare_words(x: u64, y: u64) -> Order
+// How two numbers stand.
+pub fn compare_numbers(x: u64, y: u64) -> Order
     ensures { λ r. ⌜ r ≡ order x y ⌝ }
 {
     if x < y {
@@ -205,7 +205,7 @@ pub fn compare(a: &[u8], at: usize, b: &[u8], bt: usize, n: usize) -> Order
         return compare_bytes(a, at, b, bt, n);
     }
     let i = deciding(a, at, b, bt, n - 8);
-    compare_words(load64(a, at + i), load64(b, bt + i))
+    compare_numbers(load64(a, at + i), load64(b, bt + i))
 }
 
 // Whether the n bytes at one place stand strictly below those at another.
@@ -239,9 +239,9 @@ pub fn compare_id(a: [u8; 16], b: [u8; 16]) -> Order
     let x = load64(&a, 0);
     let y = load64(&b, 0);
     if x != y {
-        return compare_words(x, y);
+        return compare_numbers(x, y);
     }
-    compare_words(load64(&a, 8), load64(&b, 8))
+    compare_numbers(load64(&a, 8), load64(&b, 8))
 }
 
 // Whether two identifiers are the same.

@@ -7,13 +7,13 @@ use native.Mathlib.Omega.{arith}
 use borrow.Author.Tests.{not-true, not-false, leb-true, ltb-true, eqb-true, le-leb, lt-leb, lt-ltb, le-ltb, eq-eqb, ne-eqb}
 use lib.Dec.{eqb, leb, ltb}
 use Rattle.core.specs.Answers.{Answer, refused, done, ask, _>>_}
+use Rattle.core.proofs.AskLaws.{stopped, passed}
 use Rattle.pageset.specs.declared.PageSet.{PageSet}
 use Rattle.pageset.specs.declared.SetAnswer.{SetAnswer}
 use Rattle.pageset.specs.Sets.{member}
 use Rattle.pageset.specs.Rules.{rangeFault, newRule}
 use Rattle.pageset.specs.Says.{Gives, GivesOr22}
 use Rattle.pageset.proofs.FormLaws.{and-fst, and-snd, and-both, and-left, and-right}
-use Rattle.pageset.proofs.WindowLaws.{lt-or}
 
 -- ---- a promise under an equal rule
 
@@ -31,14 +31,7 @@ not-so d b e h = sym e ∙ not-true d h
 pub so : (d b : Bool) → d ≡ b → not d ≡ false → b ≡ true
 so d b e h = sym e ∙ not-false d h
 
--- ---- one check; two sets; a page and a set
-
-module _ {A : Type 0} (k : Answer A) (b : Bool) where
-  pub stopped : (n : ℕ) → b ≡ false → refused n ≡ ask b n >> k
-  stopped n h = rw h
-
-  pub passed : (n : ℕ) → b ≡ true → k ≡ ask b n >> k
-  passed n h = rw h
+-- ---- a check of two sets
 
 module _ {A : Type 0} (k : Answer A) (a b : Bool) where
   pub left-stopped : (n : ℕ) → a ≡ false → refused n ≡ ask (a && b) n >> k
@@ -49,13 +42,6 @@ module _ {A : Type 0} (k : Answer A) (a b : Bool) where
 
   pub both-passed : (n : ℕ) → a ≡ true → b ≡ true → k ≡ ask (a && b) n >> k
   both-passed n h g = passed k (a && b) n (and-both a b h g)
-
-module _ {A : Type 0} (k : Answer A) (p : ℕ) where
-  pub page-zero : p ≡ 0 → refused 1 ≡ ask (ltb 0 p) 1 >> k
-  page-zero e = stopped k (ltb 0 p) 1 (le-ltb 0 p (omega arith))
-
-  pub page-some : (p ≡ 0 → ⊥) → k ≡ ask (ltb 0 p) 1 >> k
-  page-some h = passed k (ltb 0 p) 1 (lt-ltb 0 p (omega arith))
 
 -- ---- a range of pages
 

@@ -12,6 +12,7 @@ use borrow.Author.Tests.{eqb-false}
 use Rattle.core.specs.Answers.{Answer, refused, done, code, ask, need, _>>=_, _>>_}
 use Rattle.core.specs.Numbers.{counts, lastLsn}
 use Rattle.pageset.specs.Sets.{normalForm}
+use Rattle.core.specs.Hashes.{isZero}
 use Rattle.rules.specs.Frames.{Part, partOf, frameList, frameOf, withinLent, frameBytes, touching, joinedPart, join}
 use Rattle.rules.specs.Pages.{head, builtRange}
 use Rattle.rules.specs.Lists.{first, any, isNone, given}
@@ -24,7 +25,7 @@ use Rattle.rules.specs.Write.{Logs, write, writeAll, logsFormed, logsFit
 use Rattle.rules.specs.Open.{Ids, Asked, askedVolume, agreesOn, orSpare, vidFree, logFree, syncAt, opened, openVolume}
 use Rattle.rules.specs.Snapshots.{watermarkOf, below, snapshot, isLatest, latestCheck, remoteOf}
 use Rattle.rules.specs.Save.{lsnAfter, sidInUse, savedCommit, nowPresent, save}
-use Rattle.rules.specs.Push.{isBefore, isZero, prepare, isHash, sameThere, pushedVolume, push, success, dropPending, leaves, recoverBy, recoverPending, recover}
+use Rattle.rules.specs.Push.{isBefore, prepare, isHash, sameThere, pushedVolume, push, success, dropPending, leaves, recoverBy, recoverPending, recover}
 use Rattle.rules.specs.Sync.{sync, changed, notOlder, syncBy, changes}
 use Rattle.rules.specs.Walk.{pathCommits, walkOf, snapshotCommits, walk, missingOf, missingFrames}
 use Rattle.rules.specs.Search.{entryIn, foundBy, searchPath, searchPage}

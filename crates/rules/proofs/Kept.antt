@@ -12,6 +12,7 @@ use borrow.Author.Tests.{leb-true, le-leb, lt-ltb, ltb-true}
 use Rattle.core.specs.Answers.{Answer, refused, done}
 use Rattle.core.specs.Numbers.{counts, lastLsn, lastPage}
 use Rattle.pageset.specs.Sets.{normalForm}
+use Rattle.core.specs.Hashes.{isZero}
 use Rattle.rules.specs.Lists.{those, all, given, isNone}
 use Rattle.core.specs.Orders.{bytes, logLsn, sidPage}
 use Rattle.rules.specs.Records.{Id, Name, Pages, Commit, SyncPoint, Pending, Volume, Present, Tag, Range, Snapshot, commitKey, presentKey, volumeKey, tagKey}
@@ -23,7 +24,7 @@ use Rattle.rules.specs.Write.{Logs, write, writeAll, logsFormed, logsFit
 use Rattle.rules.specs.Open.{Ids, Asked, orSpare, askedVolume, agreesOn, vidFree, logFree, syncAt, opened, openVolume}
 use Rattle.rules.specs.Snapshots.{watermarkOf, remoteOf, below, isLatest, snapshotOf}
 use Rattle.rules.specs.Save.{lsnAfter, sidInUse, savedCommit, nowPresent, save}
-use Rattle.rules.specs.Push.{withPending, isBefore, isZero, prepare, isHash, sameThere, pushedVolume, push, success, dropPending, recoverBy, recoverPending, recover, leaves}
+use Rattle.rules.specs.Push.{withPending, isBefore, prepare, isHash, sameThere, pushedVolume, push, success, dropPending, recoverBy, recoverPending, recover, leaves}
 use Rattle.rules.specs.Sync.{changed, movedVolume, notOlder, syncBy, sync}
 use Rattle.rules.specs.Walk.{inRange, pathCommits}
 use Rattle.rules.specs.Copies.{copyFree, renumbered, newVolume, copied, fromSnapshot, fromCommit, fromLogref}

@@ -12,6 +12,7 @@ use Rattle.core.specs.Answers.{Answer, refused, done}
 use Rattle.core.specs.Numbers.{counts}
 use Rattle.pageset.specs.Sets.{holds, normalForm}
 use Rattle.core.specs.Orders.{bytes, next, sidPage}
+use Rattle.core.specs.Hashes.{isZero}
 use Rattle.rules.specs.Lists.{any, isSome, isNone}
 use Rattle.rules.specs.Records.{Id, Name, Pages, Commit, Pending, Volume, Present, Tag, Snapshot, SidPage, presentKey, volumeKey, tagKey}
 use Rattle.rules.specs.Pages.{pagesIn}
@@ -21,7 +22,7 @@ use Rattle.rules.specs.Write.{Logs, logsFormed, writeCommit}
 use Rattle.rules.specs.Open.{Ids, Asked, orSpare, askedVolume, agreesOn, vidFree, logFree, opened, openVolume}
 use Rattle.rules.specs.Snapshots.{watermarkOf, remoteOf, below}
 use Rattle.rules.specs.Save.{save}
-use Rattle.rules.specs.Push.{withPending, isBefore, isZero, isHash, pushedVolume, push, prepare, success, dropPending, leaves, recoverBy, recoverPending, recover}
+use Rattle.rules.specs.Push.{withPending, isBefore, isHash, pushedVolume, push, prepare, success, dropPending, leaves, recoverBy, recoverPending, recover}
 use Rattle.rules.specs.Sync.{changed, movedVolume, notOlder, syncBy, sync}
 use Rattle.rules.specs.Copies.{copyFree, newVolume, copied, fromSnapshot, fromLogref}
 use Rattle.rules.specs.Reads.{volumeDelete, presentIn, pageMark, pageRemove, pagesRemove, tagDelete, tagReplace}

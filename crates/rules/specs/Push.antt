@@ -5,7 +5,8 @@ use mathlib.Core.Bool.{Bool, true, false, cond, not, _&&_}
 use lib.Dec.{eqb}
 use Rattle.core.specs.Answers.{Answer, refused, done, ask, need, _>>=_, _>>_}
 use Rattle.core.specs.Numbers.{counts}
-use Rattle.rules.specs.Lists.{all, isNone}
+use Rattle.core.specs.Hashes.{isZero}
+use Rattle.rules.specs.Lists.{isNone}
 use Rattle.core.specs.Orders.{bytes}
 use Rattle.rules.specs.Records.{Id, Hash, Commit, Pending, Volume, volumeKey}
 use Rattle.rules.specs.Tables.{Table, fits, store, volumesFormed, commitsFormed, sameId, getVolume, getCommit, latestLsn}
@@ -23,10 +24,6 @@ withPending v p = record { vid = v .vid; local = v .local; remote = v .remote; s
 abbrev pub isBefore : Option ℕ → ℕ → Bool
 isBefore none n = eqb n 1
 isBefore (some m) n = eqb (m + 1) n
-
--- ZERO is all zeros
-unfoldable pub isZero : Hash → Bool
-isZero h = all (λ b. eqb b 0) h
 
 -- prepare
 unfoldable pub prepare : Table Volume → Table Commit → Id → Pending → Answer (Table Volume)

@@ -29,14 +29,14 @@ add-load64-2 c = search needs
 load64-requires-2 : tie.Need-load64-requires-2
 load64-requires-2 c κs = search needs
 
-compare-words-requires : tie.Need-compare-words-requires
-compare-words-requires c κs = search needs
+compare-numbers-requires : tie.Need-compare-numbers-requires
+compare-numbers-requires c κs = search needs
 
 returns-2 : tie.Need-returns-2
 returns-2 c =
     let a = c .before .before .before .before .before .before .before .args in
     let e : a .n - 8 + 8 ≡ a .n = omega arith in
-    c .compare-words .ensures
+    c .compare-numbers .ensures
     ∙ ap₂ order (c .before .before .load64 .ensures) (c .before .load642 .ensures)
     ∙ sym (c .before .before .before .deciding .ensures .1)
     ∙ ap (λ (m : ℕ). lex (part (a .at) m (a .a .now)) (part (a .bt) m (a .b .now))) e
@@ -52,5 +52,5 @@ compare-spec =
     load64-requires
     add-load64-2
     load64-requires-2
-    compare-words-requires
+    compare-numbers-requires
     returns-2)

@@ -27,11 +27,11 @@ slice-aggregate-load64-2 c = search needs
 load64-requires-2 : tie.Need-load64-requires-2
 load64-requires-2 c κs = search needs
 
-compare-words-requires : tie.Need-compare-words-requires
-compare-words-requires c κs = search needs
+compare-numbers-requires : tie.Need-compare-numbers-requires
+compare-numbers-requires c κs = search needs
 
 returns : tie.Need-returns
-returns c = c .compare-words .ensures ∙ sym (first-word (c .before .before .before .before .before .before .args .t1) (c .before .before .before .before .before .before .args .t2) (search needs) (search needs) (bytes-a (c .before .before .before .before .before .before)) (bytes-b (c .before .before .before .before .before .before)) _ _ (c .before .before .before .before .load64 .ensures) (c .before .before .load642 .ensures) (c .before .if1 .taken))
+returns c = c .compare-numbers .ensures ∙ sym (first-word (c .before .before .before .before .before .before .args .t1) (c .before .before .before .before .before .before .args .t2) (search needs) (search needs) (bytes-a (c .before .before .before .before .before .before)) (bytes-b (c .before .before .before .before .before .before)) _ _ (c .before .before .before .before .load64 .ensures) (c .before .before .load642 .ensures) (c .before .if1 .taken))
 
 slice-aggregate-load64-3 : tie.Need-slice-aggregate-load64-3
 slice-aggregate-load64-3 c = search needs
@@ -45,11 +45,11 @@ slice-aggregate-load64-4 c = search needs
 load64-requires-4 : tie.Need-load64-requires-4
 load64-requires-4 c κs = search needs
 
-compare-words-requires-2 : tie.Need-compare-words-requires-2
-compare-words-requires-2 c κs = search needs
+compare-numbers-requires-2 : tie.Need-compare-numbers-requires-2
+compare-numbers-requires-2 c κs = search needs
 
 returns-2 : tie.Need-returns-2
-returns-2 c = c .compare-words2 .ensures ∙ sym (second-word (c .before .before .before .before .before .before .before .before .before .before .args .t1) (c .before .before .before .before .before .before .before .before .before .before .args .t2) (search needs) (search needs) (bytes-a (c .before .before .before .before .before .before .before .before .before .before)) (bytes-b (c .before .before .before .before .before .before .before .before .before .before)) _ _ (c .before .before .before .before .before .before .before .before .load64 .ensures) (c .before .before .before .before .before .before .load642 .ensures) (c .before .before .before .before .before .if1 .left) _ _ (c .before .before .before .load643 .ensures) (c .before .load644 .ensures))
+returns-2 c = c .compare-numbers2 .ensures ∙ sym (second-word (c .before .before .before .before .before .before .before .before .before .before .args .t1) (c .before .before .before .before .before .before .before .before .before .before .args .t2) (search needs) (search needs) (bytes-a (c .before .before .before .before .before .before .before .before .before .before)) (bytes-b (c .before .before .before .before .before .before .before .before .before .before)) _ _ (c .before .before .before .before .before .before .before .before .load64 .ensures) (c .before .before .before .before .before .before .load642 .ensures) (c .before .before .before .before .before .if1 .left) _ _ (c .before .before .before .load643 .ensures) (c .before .load644 .ensures))
 
 pub compare-id-spec : {M : Type 1} → statement M
 compare-id-spec =
@@ -59,11 +59,11 @@ compare-id-spec =
     load64-requires
     slice-aggregate-load64-2
     load64-requires-2
-    compare-words-requires
+    compare-numbers-requires
     returns
     slice-aggregate-load64-3
     load64-requires-3
     slice-aggregate-load64-4
     load64-requires-4
-    compare-words-requires-2
+    compare-numbers-requires-2
     returns-2)

@@ -4,7 +4,8 @@ use Rattle.core.specs.Answers.{done}
 use Rattle.pageset.specs.Sets.{normal}
 use Rattle.pageset.specs.Rules.{sizeRule}
 use borrow.Author.Needs.{needs}
-use Rattle.pagecalls.proofs.CallLaws.{not-so, so, stopped, passed}
+use Rattle.core.proofs.AskLaws.{stopped, passed}
+use Rattle.pagecalls.proofs.CallLaws.{not-so, so}
 use Rattle.pagecalls.proofs.cardinality.Statement.{statement}
 use Rattle.pagecalls.proofs.cardinality.Tie as tie
 

@@ -4,20 +4,21 @@ use Rattle.core.specs.Answers.{done}
 use Rattle.pageset.specs.Sets.{normal}
 use Rattle.pageset.specs.Rules.{containsRule}
 use borrow.Author.Needs.{needs}
-use Rattle.pagecalls.proofs.CallLaws.{not-so, so, stopped, passed, page-zero, page-some}
+use Rattle.core.proofs.AskLaws.{stopped, passed, zero-stopped, zero-passed}
+use Rattle.pagecalls.proofs.CallLaws.{not-so, so}
 use Rattle.pagecalls.proofs.contains.Statement.{statement}
 use Rattle.pagecalls.proofs.contains.Tie as tie
 
 returns : tie.Need-returns
 unfolding containsRule
-returns c = page-zero _ (c .before .before .args .p .0) (c .if1 .taken)
+returns c = zero-stopped _ (c .before .before .args .p .0) (c .if1 .taken)
 
 is-normal-requires : tie.Need-is-normal-requires
 is-normal-requires c κs = search needs
 
 returns-2 : tie.Need-returns-2
 unfolding containsRule
-returns-2 c = let s = c .before .before .before .before .args .s in stopped _ (normal s) 3 (not-so _ (normal s) (c .before .is-normal .ensures) (c .if2 .taken)) ∙ page-some _ (c .before .before .before .before .args .p .0) (c .before .before .if1 .left)
+returns-2 c = let s = c .before .before .before .before .args .s in stopped _ (normal s) 3 (not-so _ (normal s) (c .before .is-normal .ensures) (c .if2 .taken)) ∙ zero-passed _ (c .before .before .before .before .args .p .0) (c .before .before .if1 .left)
 
 contains-requires : tie.Need-contains-requires
 contains-requires c κs = let s = c .before .before .before .before .args .s in so _ (normal s) (c .before .is-normal .ensures) (c .if2 .left)
@@ -27,7 +28,7 @@ yes-or-no-requires c κs = search needs
 
 returns-3 : tie.Need-returns-3
 unfolding containsRule
-returns-3 c = let s = c .before .before .before .before .before .before .args .s in c .yes-or-no .ensures ∙ ap done (c .before .contains .ensures) ∙ passed _ (normal s) 3 (so _ (normal s) (c .before .before .before .is-normal .ensures) (c .before .before .if2 .left)) ∙ page-some _ (c .before .before .before .before .before .before .args .p .0) (c .before .before .before .before .if1 .left)
+returns-3 c = let s = c .before .before .before .before .before .before .args .s in c .yes-or-no .ensures ∙ ap done (c .before .contains .ensures) ∙ passed _ (normal s) 3 (so _ (normal s) (c .before .before .before .is-normal .ensures) (c .before .before .if2 .left)) ∙ zero-passed _ (c .before .before .before .before .before .before .args .p .0) (c .before .before .before .before .if1 .left)
 
 pub contains-spec : {M : Type 1} → statement M
 contains-spec =

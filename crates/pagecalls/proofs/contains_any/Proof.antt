@@ -4,7 +4,8 @@ use Rattle.core.specs.Answers.{done}
 use Rattle.pageset.specs.Sets.{normal}
 use Rattle.pageset.specs.Rules.{anyRule}
 use borrow.Author.Needs.{needs}
-use Rattle.pagecalls.proofs.CallLaws.{not-so, so, stopped, passed, range-stopped, range-passed, range-facts}
+use Rattle.core.proofs.AskLaws.{stopped, passed}
+use Rattle.pagecalls.proofs.CallLaws.{not-so, so, range-stopped, range-passed, range-facts}
 use Rattle.pagecalls.proofs.contains_any.Statement.{statement}
 use Rattle.pagecalls.proofs.contains_any.Tie as tie
 

@@ -3,7 +3,8 @@ use mathlib.Core.Path.{refl, _∙_}
 use Rattle.pageset.specs.Sets.{normal}
 use Rattle.pageset.specs.Rules.{removeRule}
 use borrow.Author.Needs.{needs}
-use Rattle.pagecalls.proofs.CallLaws.{gives, not-so, so, stopped, passed, range-stopped, range-passed, range-facts}
+use Rattle.core.proofs.AskLaws.{stopped, passed}
+use Rattle.pagecalls.proofs.CallLaws.{gives, not-so, so, range-stopped, range-passed, range-facts}
 use Rattle.pagecalls.proofs.remove_page_range.Statement.{statement}
 use Rattle.pagecalls.proofs.remove_page_range.Tie as tie
 

@@ -3,7 +3,8 @@ use mathlib.Core.Path.{refl}
 use Rattle.pageset.specs.Sets.{normal}
 use Rattle.pageset.specs.Rules.{truncateRule}
 use borrow.Author.Needs.{needs}
-use Rattle.pagecalls.proofs.CallLaws.{gives, not-so, so, stopped, passed}
+use Rattle.core.proofs.AskLaws.{stopped, passed}
+use Rattle.pagecalls.proofs.CallLaws.{gives, not-so, so}
 use Rattle.pagecalls.proofs.truncate.Statement.{statement}
 use Rattle.pagecalls.proofs.truncate.Tie as tie
 
