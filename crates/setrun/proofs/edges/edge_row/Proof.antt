@@ -1,0 +1,46 @@
+-- `setrun::edges::edge_row` is safe and ends. Nothing has to hold from turn to turn, since the loop's test bounds the index; the measure is how far `i` is below 20.
+use Prim.Native.Nat.{_-_}
+use native.Mathlib.Omega.{arith}
+use Rattle.setrun.proofs.edges.edge_row.Statement.{statement}
+use Rattle.setrun.proofs.edges.edge_row.Tie as tie
+
+abbrev Inv-loop : tie.InvT-loop
+Inv-loop a sum₀ i₀ sum i = Unit {0}
+
+abbrev μ-loop : tie.MeasureT-loop
+μ-loop a sum₀ i₀ sum i = 20 - i
+
+loop-holds : tie.Need-loop-holds Inv-loop μ-loop
+loop-holds c = tt
+
+edge-requires : tie.Need-edge-requires Inv-loop μ-loop
+edge-requires c κs = tt
+
+edge-range-requires : tie.Need-edge-range-requires Inv-loop μ-loop
+edge-range-requires c κs = tt
+
+add-i : tie.Need-add-i Inv-loop μ-loop
+add-i c = omega arith
+
+loop-less : tie.Need-loop-less Inv-loop μ-loop
+loop-less c = omega arith
+
+loop-again : tie.Need-loop-again Inv-loop μ-loop
+loop-again c = tt
+
+returns : tie.Need-returns Inv-loop μ-loop
+returns c = tt
+
+pub edge-row-spec : {M : Type 1} → statement M
+edge-row-spec =
+    tie.close
+    (tie.spec
+    Inv-loop
+    μ-loop
+    loop-holds
+    edge-requires
+    edge-range-requires
+    add-i
+    loop-less
+    loop-again
+    returns)

@@ -1,0 +1,67 @@
+-- `setrun::rounds::building` is safe and ends. Nothing has to hold from turn to turn, since the loop's test bounds the index; the measure is what is left of `draws` past `i`.
+use Prim.Native.Nat.{_-_}
+use native.Mathlib.Omega.{arith}
+use lib.ListN.{length}
+use Rattle.setrun.proofs.rounds.building.Statement.{statement}
+use Rattle.setrun.proofs.rounds.building.Tie as tie
+
+abbrev Inv-loop : tie.InvT-loop
+Inv-loop draws sum₀ h₀ i₀ sum h i = Unit {0}
+
+abbrev μ-loop : tie.MeasureT-loop
+μ-loop draws sum₀ h₀ i₀ sum h i = length draws - i
+
+empty-requires : tie.Need-empty-requires Inv-loop μ-loop
+empty-requires c κs = tt
+
+loop-holds : tie.Need-loop-holds Inv-loop μ-loop
+loop-holds c = tt
+
+mul-step : tie.Need-mul-step Inv-loop μ-loop
+mul-step c = omega arith
+
+shared-slice-read-step : tie.Need-shared-slice-read-step Inv-loop μ-loop
+shared-slice-read-step c = omega arith
+
+step-requires : tie.Need-step-requires Inv-loop μ-loop
+step-requires c κs = tt
+
+mul-grown : tie.Need-mul-grown Inv-loop μ-loop
+mul-grown c = omega arith
+
+shared-slice-read-grown : tie.Need-shared-slice-read-grown Inv-loop μ-loop
+shared-slice-read-grown c = omega arith
+
+grown-requires : tie.Need-grown-requires Inv-loop μ-loop
+grown-requires c κs = tt
+
+add-i : tie.Need-add-i Inv-loop μ-loop
+add-i c = omega arith
+
+loop-less : tie.Need-loop-less Inv-loop μ-loop
+loop-less c = omega arith
+
+loop-again : tie.Need-loop-again Inv-loop μ-loop
+loop-again c = tt
+
+returns : tie.Need-returns Inv-loop μ-loop
+returns c = tt
+
+pub building-spec : {M : Type 1} → statement M
+building-spec =
+    tie.close
+    (tie.spec
+    Inv-loop
+    μ-loop
+    empty-requires
+    loop-holds
+    mul-step
+    shared-slice-read-step
+    step-requires
+    mul-grown
+    shared-slice-read-grown
+    grown-requires
+    add-i
+    loop-less
+    loop-again
+    returns)

@@ -1,0 +1,20 @@
+// Drives the calls on page sets, each answer against that of a plain list of pages, and writes how many were compared and how many differed.
+mod built;
+mod damaged;
+mod edges;
+mod full;
+mod held;
+mod naive;
+mod random;
+mod rounds;
+mod said;
+mod tally;
+
+fn main() {
+    tally::report(b"built sets", built::all());
+    tally::report(b"ranges from edge to edge", edges::ranges());
+    tally::report(b"sets of edges", edges::sets());
+    tally::report(b"full sets", full::all());
+    tally::report(b"damaged sets", damaged::all());
+    tally::report(b"random sets", rounds::all());
+}
