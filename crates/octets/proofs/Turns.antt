@@ -83,11 +83,14 @@ module _ (a b : List ℕ) (at bt : ℕ) where
       ∙ ap (λ (q : Order). thenBy q (lex (part (at + j) (n - j) a) (part (bt + j) (n - j) b))) e
       ∙ O.then-decided o _ h)
 
-  -- of equal bytes the first j are equal
-  pub shorter : (j n : ℕ) → at + n ≤ length a → bt + n ≤ length b → j ≤ n → lex (part at n a) (part bt n b) ≡ Equal → lex (part at j a) (part bt j b) ≡ Equal
-  shorter j n ha hb l e =
-      let f : n ≡ j + (n - j) = omega arith in
-      O.then-first _ _ (sym (O.lex-two a b at bt j (n - j) (omega arith) (omega arith)) ∙ subst (λ (m : ℕ). lex (part at m a) (part bt m b) ≡ Equal) f e)
+  -- after j equal bytes the others decide
+  pub rest : (j n : ℕ) → at + n ≤ length a → bt + n ≤ length b → j ≤ n → lex (part at j a) (part bt j b) ≡ Equal → lex (part (at + j) (n - j) a) (part (bt + j) (n - j) b) ≡ lex (part at n a) (part bt n b)
+  unfolding thenBy
+  rest j n ha hb l e =
+      let f : j + (n - j) ≡ n = omega arith in
+      sym (ap (λ (m : ℕ). lex (part at m a) (part bt m b)) (sym f)
+      ∙ O.lex-two a b at bt j (n - j) (omega arith) (omega arith)
+      ∙ ap (λ (o : Order). thenBy o (lex (part (at + j) (n - j) a) (part (bt + j) (n - j) b))) e)
 
   -- after j equal bytes, a word of k bytes: x on one side, y on the other
   module _ (p : AreBytes a) (q : AreBytes b) (j k x y : ℕ) (ha : at + (j + k) ≤ length a) (hb : bt + (j + k) ≤ length b) (e : lex (part at j a) (part bt j b) ≡ Equal) (ex : x ≡ be (part (at + j) k a)) (ey : y ≡ be (part (bt + j) k b)) where

@@ -180,32 +180,21 @@ fn compare_bytes(a: &[u8], at: usize, b: &[u8], bt: usize, n: usize) -> Order
     Order::Equal
 }
 
-// Of last + 8 bytes at one place and those at another, where the word stands that decides: the first that differs, or the one at `last`.
-fn deciding(a: &[u8], at: usize, b: &[u8], bt: usize, last: usize) -> usize
-    requires { ⌜ (at + (last + 8) ≤ length (now a)) × (bt + (last + 8) ≤ length (now b)) ⌝ }
-    ensures within { λ r. ⌜ r ≤ last ⌝ }
-    ensures decides { λ r. ⌜ lex (part at (last + 8) (now (a .entry))) (part bt (last + 8) (now (b .entry))) ≡ order (be (part (at + r) 8 (now (a .entry)))) (be (part (bt + r) 8 (now (b .entry)))) ⌝ }
-{
-    let mut i: usize = 0;
-    while i < last {
-        if load64(a, at + i) != load64(b, bt + i) {
-            return i;
-        }
-        i += 8;
-    }
-    last
-}
-
-// How the n bytes at one place and those at another stand.
+// How the n bytes at one place and those at another stand: word by word, and what is left byte by byte.
 pub fn compare(a: &[u8], at: usize, b: &[u8], bt: usize, n: usize) -> Order
     requires { ⌜ (at + n ≤ length (now a)) × (bt + n ≤ length (now b)) ⌝ }
     ensures { λ r. ⌜ r ≡ lex (part at n (now (a .entry))) (part bt n (now (b .entry))) ⌝ }
 {
-    if n < 8 {
-        return compare_bytes(a, at, b, bt, n);
+    let mut i: usize = 0;
+    while 8 <= n - i {
+        let x = load64(a, at + i);
+        let y = load64(b, bt + i);
+        if x != y {
+            return compare_numbers(x, y);
+        }
+        i += 8;
     }
-    let i = deciding(a, at, b, bt, n - 8);
-    compare_numbers(load64(a, at + i), load64(b, bt + i))
+    compare_bytes(a, at + i, b, bt + i, n - i)
 }
 
 // Whether the n bytes at one place stand strictly below those at another.

@@ -1,8 +1,4 @@
 // Sets that are not in normal form: every call that takes a set refuses each, in the order of the numbers.
-use crate::held;
-use crate::said;
-use crate::tally;
-use crate::tally::Tally;
 use core::page_count::PageCount;
 use core::pageidx::PageIdx;
 use pageset::CutAnswer;
@@ -10,22 +6,25 @@ use pageset::PageSet;
 use pageset::SetAnswer;
 use pageset::Window;
 use pageset::sets;
+use plainset::held;
+use plainset::said;
+use plainset::tally;
+use plainset::tally::Tally;
 
-// A set of two windows and a count, in normal form or not.
-fn made(len: usize, a: Window, b: Window) -> PageSet {
+// A count and two windows, each an index and a mask: a set in normal form or not.
+fn made(len: usize, index: u32, mask: u64, next: u32, next_mask: u64) -> PageSet {
     let mut windows = [Window { index: 0, mask: 0 }; 32];
-    windows[0] = a;
-    windows[1] = b;
+    windows[0] = Window { index, mask };
+    windows[1] = Window {
+        index: next,
+        mask: next_mask,
+    };
     PageSet { len, windows }
 }
 
 // A set in normal form.
 fn sound() -> PageSet {
-    made(
-        2,
-        Window { index: 0, mask: 2 },
-        Window { index: 5, mask: 9 },
-    )
+    made(2, 0, 2, 5, 9)
 }
 
 // A set with something in the last window.
@@ -125,130 +124,27 @@ fn refused(t: Tally, s: PageSet) -> Tally {
 
 // Windows that do not rise, one index twice, an empty mask, page 0.
 fn in_windows(t: Tally) -> Tally {
-    let t1 = refused(
-        t,
-        made(
-            2,
-            Window { index: 5, mask: 9 },
-            Window { index: 4, mask: 9 },
-        ),
-    );
-    let t2 = refused(
-        t1,
-        made(
-            2,
-            Window { index: 5, mask: 9 },
-            Window { index: 5, mask: 6 },
-        ),
-    );
-    let t3 = refused(
-        t2,
-        made(
-            2,
-            Window { index: 4, mask: 9 },
-            Window { index: 5, mask: 0 },
-        ),
-    );
-    let t4 = refused(
-        t3,
-        made(
-            2,
-            Window { index: 4, mask: 0 },
-            Window { index: 5, mask: 9 },
-        ),
-    );
-    let t5 = refused(
-        t4,
-        made(
-            1,
-            Window { index: 0, mask: 1 },
-            Window { index: 0, mask: 0 },
-        ),
-    );
-    refused(
-        t5,
-        made(
-            2,
-            Window { index: 0, mask: 3 },
-            Window { index: 5, mask: 9 },
-        ),
-    )
+    let t1 = refused(t, made(2, 5, 9, 4, 9));
+    let t2 = refused(t1, made(2, 5, 9, 5, 6));
+    let t3 = refused(t2, made(2, 4, 9, 5, 0));
+    let t4 = refused(t3, made(2, 4, 0, 5, 9));
+    let t5 = refused(t4, made(1, 0, 1, 0, 0));
+    refused(t5, made(2, 0, 3, 5, 9))
 }
 
 // Windows past the last page.
 fn past_pages(t: Tally) -> Tally {
-    let t1 = refused(
-        t,
-        made(
-            1,
-            Window {
-                index: 67108864,
-                mask: 1,
-            },
-            Window { index: 0, mask: 0 },
-        ),
-    );
-    let t2 = refused(
-        t1,
-        made(
-            2,
-            Window {
-                index: 67108863,
-                mask: 1,
-            },
-            Window {
-                index: 67108864,
-                mask: 1,
-            },
-        ),
-    );
-    refused(
-        t2,
-        made(
-            2,
-            Window { index: 5, mask: 1 },
-            Window {
-                index: 4294967295,
-                mask: 1,
-            },
-        ),
-    )
+    let t1 = refused(t, made(1, 67108864, 1, 0, 0));
+    let t2 = refused(t1, made(2, 67108863, 1, 67108864, 1));
+    refused(t2, made(2, 5, 1, 4294967295, 1))
 }
 
 // Something past the count, and a count past what is filled.
 fn past_count(t: Tally) -> Tally {
-    let t1 = refused(
-        t,
-        made(
-            1,
-            Window { index: 4, mask: 9 },
-            Window { index: 5, mask: 9 },
-        ),
-    );
-    let t2 = refused(
-        t1,
-        made(
-            1,
-            Window { index: 4, mask: 9 },
-            Window { index: 5, mask: 0 },
-        ),
-    );
-    let t3 = refused(
-        t2,
-        made(
-            0,
-            Window { index: 0, mask: 2 },
-            Window { index: 0, mask: 0 },
-        ),
-    );
-    let t4 = refused(
-        t3,
-        made(
-            3,
-            Window { index: 4, mask: 9 },
-            Window { index: 5, mask: 9 },
-        ),
-    );
+    let t1 = refused(t, made(1, 4, 9, 5, 9));
+    let t2 = refused(t1, made(1, 4, 9, 5, 0));
+    let t3 = refused(t2, made(0, 0, 2, 0, 0));
+    let t4 = refused(t3, made(3, 4, 9, 5, 9));
     let t5 = refused(t4, tailed(0, 2));
     refused(t5, tailed(1, 0))
 }
@@ -258,28 +154,14 @@ fn counts(t: Tally) -> Tally {
     let t1 = refused(t, filled(31));
     let t2 = refused(t1, filled(33));
     let t3 = refused(t2, filled(18446744073709551615));
-    refused(
-        t3,
-        made(
-            33,
-            Window { index: 0, mask: 0 },
-            Window { index: 0, mask: 0 },
-        ),
-    )
+    refused(t3, made(33, 0, 0, 0, 0))
 }
 
 // The sets that these were made from are in normal form.
 fn controls(t: Tally) -> Tally {
     let t1 = held::ends(t, sound(), &[1u32, 320, 323]);
     let t2 = tally::same(t1, said::count(pagecalls::cardinality(filled(32))), 32);
-    let top = made(
-        1,
-        Window {
-            index: 67108863,
-            mask: 9223372036854775808,
-        },
-        Window { index: 0, mask: 0 },
-    );
+    let top = made(1, 67108863, 9223372036854775808, 0, 0);
     tally::same(t2, said::page(pagecalls::last(top)), 4294967295)
 }
 

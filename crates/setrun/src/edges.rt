@@ -1,12 +1,12 @@
 // Pages and counts at the edges: of the numbers, of a window, and of a set.
-use crate::held;
-use crate::held::Held;
-use crate::naive;
-use crate::said;
-use crate::tally;
-use crate::tally::Tally;
 use core::pageidx::PageIdx;
 use pageset::PageSet;
+use plainset::held;
+use plainset::held::Held;
+use plainset::naive;
+use plainset::said;
+use plainset::tally;
+use plainset::tally::Tally;
 
 // Pages at the edges of windows, of 32 windows and of the numbers; 0 is none.
 const EDGES: [u32; 20] = [

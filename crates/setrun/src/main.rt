@@ -1,14 +1,11 @@
 // Drives the calls on page sets, each answer against that of a plain list of pages, and writes how many were compared and how many differed.
+use plainset::tally;
+
 mod built;
 mod damaged;
 mod edges;
 mod full;
-mod held;
-mod naive;
-mod random;
 mod rounds;
-mod said;
-mod tally;
 
 fn main() {
     tally::report(b"built sets", built::all());

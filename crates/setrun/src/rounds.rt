@@ -1,9 +1,9 @@
 // Random sets: each round draws two sets near each other, and tries each call on them.
-use crate::held;
-use crate::held::Held;
-use crate::random;
-use crate::tally;
-use crate::tally::Tally;
+use plainset::held;
+use plainset::held::Held;
+use plainset::random;
+use plainset::tally;
+use plainset::tally::Tally;
 
 // The set of a draw, by insertions.
 fn built(draws: &[u32]) -> Held {
@@ -17,21 +17,13 @@ fn built(draws: &[u32]) -> Held {
     h
 }
 
-// One insertion's number on the way; no page is passed over.
-fn step(t: Tally, h: Held, p: u32) -> Tally {
-    if p == 0 {
-        return t;
-    }
-    held::insert_number(t, h, p)
-}
-
-// The numbers of the insertions that build a set.
+// The numbers of the insertions that build a set; 0 is no page, and refused.
 fn building(t: Tally, draws: &[u32]) -> Tally {
     let mut sum = t;
     let mut h = held::empty();
     let mut i: usize = 0;
     while i < draws.len() {
-        sum = step(sum, h, draws[i]);
+        sum = held::insert_number(sum, h, draws[i]);
         let more = held::grown(h, draws[i]);
         h = more;
         i += 1;

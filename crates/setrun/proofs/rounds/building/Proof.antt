@@ -17,14 +17,14 @@ empty-requires c κs = tt
 loop-holds : tie.Need-loop-holds Inv-loop μ-loop
 loop-holds c = tt
 
-mul-step : tie.Need-mul-step Inv-loop μ-loop
-mul-step c = omega arith
+mul-insert-number : tie.Need-mul-insert-number Inv-loop μ-loop
+mul-insert-number c = omega arith
 
-shared-slice-read-step : tie.Need-shared-slice-read-step Inv-loop μ-loop
-shared-slice-read-step c = omega arith
+shared-slice-read-insert-number : tie.Need-shared-slice-read-insert-number Inv-loop μ-loop
+shared-slice-read-insert-number c = omega arith
 
-step-requires : tie.Need-step-requires Inv-loop μ-loop
-step-requires c κs = tt
+insert-number-requires : tie.Need-insert-number-requires Inv-loop μ-loop
+insert-number-requires c κs = tt
 
 mul-grown : tie.Need-mul-grown Inv-loop μ-loop
 mul-grown c = omega arith
@@ -55,9 +55,9 @@ building-spec =
     μ-loop
     empty-requires
     loop-holds
-    mul-step
-    shared-slice-read-step
-    step-requires
+    mul-insert-number
+    shared-slice-read-insert-number
+    insert-number-requires
     mul-grown
     shared-slice-read-grown
     grown-requires

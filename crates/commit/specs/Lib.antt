@@ -1,0 +1,4 @@
+pub mod Builders
+pub mod Says
+pub mod Places
+pub mod Rules

@@ -1,0 +1,3 @@
+pub mod ChangeLaws
+pub mod PathLaws
+pub mod SnapshotLaws
