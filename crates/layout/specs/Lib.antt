@@ -1,0 +1,4 @@
+pub mod Codecs
+pub mod Values
+pub mod Records
+pub mod Tables
