@@ -80,9 +80,10 @@ module _ (s : PageSet) (e : normal s ≡ true) where
   its : Normal s
   its = normal-fact s e
 
-  form : normalForm (shown s) ≡ true
+  -- the windows that count are in normal form
+  pub normal-pages : normalForm (shown s) ≡ true
   unfolding normal
-  form = and-snd (leb (s .len) 32 && eqb (length (s .windows)) 32 && blank (drop (s .len) (s .windows))) (normalForm (shown s)) e
+  normal-pages = and-snd (leb (s .len) 32 && eqb (length (s .windows)) 32 && blank (drop (s .len) (s .windows))) (normalForm (shown s)) e
 
   -- all the pages are left
   pub walk-all : pagesLeft (s .windows) (s .len) zeroWindow ≡ pagesIn (shown s)
@@ -93,7 +94,7 @@ module _ (s : PageSet) (e : normal s ≡ true) where
     within = omega arith;
     index = omega arith;
     mask = omega arith;
-    pages = ap length walk-all ∙ size-counts (shown s) form ∙ sym c;
+    pages = ap length walk-all ∙ size-counts (shown s) normal-pages ∙ sym c;
   }
 
   module _ (n : ℕ) (w : Window) (k : ℕ) (h : Walking s n w k) where
@@ -140,22 +141,27 @@ module _ (s : PageSet) (e : normal s ≡ true) where
       onward : Ahead s (cond (eqb (w .mask) 0) (n - 1) n) (under w below) k (pagesLeft (s .windows) n w)
       onward = ahead (eqb (w .mask) 0) refl
 
-      -- what `next_down` requires
-      pub step-ready : (0 < under w (getD (s .windows) (n - 1) zeroWindow) .mask) × (under w (getD (s .windows) (n - 1) zeroWindow) .index < 67108864) × (0 < n + w .mask)
-      step-ready = (onward .some, onward .walk .index, ⊎-elim (λ z. omega (arith, more z)) (λ z. omega arith) (eq-or (w .mask) 0))
+      -- the window at the place j, which is the one below w
+      module _ (j : ℕ) (ej : j ≡ n - 1) where
+        -- what `next_down` requires
+        pub step-ready : (0 < under w (getD (s .windows) j zeroWindow) .mask) × (under w (getD (s .windows) j zeroWindow) .index < 67108864) × (0 < n + w .mask)
+        step-ready = rw ej (onward .some, onward .walk .index, ⊎-elim (λ z. omega (arith, more z)) (λ z. omega arith) (eq-or (w .mask) 0))
 
-      module _ (page m : ℕ) (rest : Window) (t : Stepped n w (getD (s .windows) (n - 1) zeroWindow) page m rest) where
-        -- the last of the pages that are left
-        pub step-last : pagesLeft (s .windows) n w ≡ pagesLeft (s .windows) m rest ++ page ∷ []
-        step-last =
-            onward .same
-            ∙ left-last (s .windows) (cond (eqb (w .mask) 0) (n - 1) n) (under w below) page rest (t .last)
-            ∙ ap (λ (i : ℕ). pagesLeft (s .windows) i rest ++ page ∷ []) (sym (t .begun))
+        module _ (page m : ℕ) (rest : Window) (t : Stepped n w (getD (s .windows) j zeroWindow) page m rest) where
+          last : LastOf (under w below) page rest
+          last = rw ej at (t .last)
 
-        pub step-on : Walking s m rest (k - 1)
-        step-on = record {
-          within = omega (arith, t .begun, onward .walk .within);
-          index = omega (arith, t .last .index, onward .walk .index);
-          mask = omega (arith, t .last .less, onward .walk .mask);
-          pages = omega (arith, h .pages, ap length step-last, length-append (pagesLeft (s .windows) m rest) (page ∷ []));
-        }
+          -- the last of the pages that are left
+          pub step-last : pagesLeft (s .windows) n w ≡ pagesLeft (s .windows) m rest ++ page ∷ []
+          step-last =
+              onward .same
+              ∙ left-last (s .windows) (cond (eqb (w .mask) 0) (n - 1) n) (under w below) page rest last
+              ∙ ap (λ (i : ℕ). pagesLeft (s .windows) i rest ++ page ∷ []) (sym (t .begun))
+
+          pub step-on : Walking s m rest (k - 1)
+          step-on = record {
+            within = omega (arith, t .begun, onward .walk .within);
+            index = omega (arith, last .index, onward .walk .index);
+            mask = omega (arith, last .less, onward .walk .mask);
+            pages = omega (arith, h .pages, ap length step-last, length-append (pagesLeft (s .windows) m rest) (page ∷ []));
+          }

@@ -1,0 +1,2 @@
+pub mod EntryRows
+pub mod EntryTurns
