@@ -2,7 +2,7 @@
 -- the page in, so what is still to do is the rows of the pages that are left, and a turn takes the last of them.
 -- The loop that counts keeps "the count so far and that of what is left are that of all".
 use Prim.Native.Nat.{ℕ, _+_, _-_, _^_, _≤_, _<_}
-use mathlib.Core.Path.{_≡_, refl, sym, ap, ap₂, _∙_}
+use mathlib.Core.Path.{_≡_, refl, sym, ap, ap₂, _∙_, subst}
 use mathlib.Core.Bool.{true}
 use mathlib.Core.List.{List, [], _∷_, _++_, map, map-map}
 use native.Mathlib.Omega.{arith}
@@ -12,6 +12,7 @@ use Rattle.pageset.specs.Sets.{shown, normal, zeroWindow}
 use Rattle.rules.specs.Pages.{pagesIn}
 use Rattle.rules.proofs.TableLaws.{map-append}
 use Rattle.table.specs.Records.{rises}
+use Rattle.table.specs.Table.{Each}
 use Rattle.batch.specs.Batch.{lacks, news, fresh}
 use Rattle.batch.proofs.Puts.{fresh-append, news-rising}
 use Rattle.layout.specs.Records.{entryBytes}
@@ -19,14 +20,14 @@ use Rattle.pagesdown.specs.Down.{pagesLeft}
 use Rattle.pagesdown.proofs.Walks.{walk-all}
 use Rattle.pagesdown.proofs.Climbs.{pages-climb}
 use Rattle.indexing.specs.Rows.{entry, entryRow, withPage, entryRows}
-use Rattle.indexing.proofs.EntryRows.{row-page, rows-rise}
+use Rattle.indexing.proofs.EntryRows.{row-page, rows-rise, rows-long}
 
 -- the rows of pages, made from one row
 abbrev pub pageRows : List ℕ → List ℕ → List (List ℕ)
 pageRows row ps = map (withPage row) ps
 
 -- with the last page
-rows-last : (row ps qs : List ℕ) (p : ℕ) → ps ≡ qs ++ p ∷ [] → pageRows row ps ≡ pageRows row qs ++ withPage row p ∷ []
+pub rows-last : (row ps qs : List ℕ) (p : ℕ) → ps ≡ qs ++ p ∷ [] → pageRows row ps ≡ pageRows row qs ++ withPage row p ∷ []
 rows-last row ps qs p e = ap (pageRows row) e ∙ map-append (withPage row) qs (p ∷ [])
 
 -- ---- the entries of the set s
@@ -44,6 +45,9 @@ module _ (log : List ℕ) (h : length log ≡ 16) (lsn : ℕ) (row : List ℕ) (
     -- and they rise
     pub all-rise : rises 29 (entryRows log lsn (shown s)) ≡ true
     all-rise = ap (rises 29) (map-map (entryBytes .spell) (entry log lsn) (pagesIn (shown s))) ∙ rows-rise log h lsn 0 (pagesIn (shown s)) (pages-climb s e)
+
+    pub all-long : Each 29 (entryRows log lsn (shown s))
+    all-long = subst (Each 29) (sym (map-map (entryBytes .spell) (entry log lsn) (pagesIn (shown s)))) (rows-long log h lsn (pagesIn (shown s)))
 
     pub all-counted : (l : List (List ℕ)) → fresh 29 (pageRows row (pagesLeft (s .windows) (s .len) zeroWindow)) l ≡ news 29 (entryRows log lsn (shown s)) l
     all-counted l = ap (λ (rs : List (List ℕ)). fresh 29 rs l) all-left ∙ sym (news-rising 29 (entryRows log lsn (shown s)) l all-rise)

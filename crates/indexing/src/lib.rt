@@ -9,8 +9,8 @@ use pageset::sets;
 ghost use mathlib.Core.Path.{_≡_};
 ghost use mathlib.Core.Bool.{true};
 ghost use Rattle.pageset.specs.Sets.{shown, normal};
-ghost use Rattle.table.specs.Table.{recs, wellOrdered};
-ghost use Rattle.batch.specs.Batch.{news};
+ghost use Rattle.table.specs.Table.{recs, laid, wellOrdered, fits};
+ghost use Rattle.batch.specs.Batch.{putAll, news};
 ghost use Rattle.indexing.specs.Rows.{entryRow, withPage, entryRows};
 
 // The index entry of a page.
@@ -54,4 +54,33 @@ pub fn count_entries(t: &[u8], log: LogId, lsn: Lsn, set: PageSet) -> usize
         n -= 1;
     }
     c
+}
+
+// The entries put into the index t by one merge from the back; `fresh` of their keys are new.
+pub fn put_entries(t: &mut [u8], log: LogId, lsn: Lsn, set: PageSet, fresh: usize)
+    requires { ⌜ wellOrdered 29 29 (now t) ≡ true ⌝ }
+    requires { ⌜ normal set ≡ true ⌝ }
+    requires { ⌜ fresh ≡ news 29 (entryRows log (lsn .0) (shown set)) (recs 29 (now t)) ⌝ }
+    requires { ⌜ fits 29 (putAll 29 (entryRows log (lsn .0) (shown set)) (recs 29 (now t))) (now t) ≡ true ⌝ }
+    ensures { λ _. ⌜ now (t .exit) ≡ laid (putAll 29 (entryRows log (lsn .0) (shown set)) (recs 29 (now (t .entry)))) (now (t .entry)) ⌝ }
+{
+    let row = entry_row(log, lsn, 0);
+    let ws = set.windows;
+    let count = table::count(t);
+    let mut held = count;
+    let mut coming = fresh;
+    let mut i = set.len;
+    let mut w = Window { index: 0, mask: 0 };
+    let mut n = sets::cardinality(set).0;
+    while 0 < n {
+        let step = pagesdown::next_down(i, w, ws[pagesdown::last_place(i)]);
+        let e = with_page(row, step.page);
+        let left = batch::merge_next(t, ENTRY, ENTRY, held, coming, &e);
+        held = left.held;
+        coming = left.fresh;
+        i = step.windows;
+        w = step.rest;
+        n -= 1;
+    }
+    octets::store16(t, 0, count + fresh);
 }
