@@ -1,3 +1,4 @@
 pub mod EntryRows
 pub mod EntryTurns
 pub mod EntryMerges
+pub mod CheckpointRows
