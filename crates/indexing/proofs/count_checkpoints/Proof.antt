@@ -18,8 +18,7 @@ count-new-requires : tie.Need-count-new-requires
 count-new-requires c κs = search needs
 
 returns : tie.Need-returns
-returns c =
-    c .count-new .ensures .0 ∙ ap (λ (rs : List (List ℕ)). news 25 rs (recs 25 (c .before .before .before .before .args .t .now))) (c .before .before .checkpoint-rows .ensures)
+returns c = rw (c .before .before .checkpoint-rows .ensures) at (c .count-new .ensures .0)
 
 pub count-checkpoints-spec : {M : Type 1} → statement M
 count-checkpoints-spec =

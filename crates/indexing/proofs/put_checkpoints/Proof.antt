@@ -18,18 +18,15 @@ slice-aggregate-put-all c = search needs
 
 put-all-requires : tie.Need-put-all-requires
 put-all-requires c κs =
-    let t = c .before .before .before .before .args .t .now in
     let p = c .before .before .before .before .pre in
     let rows : length (c .before .before .checkpoint-rows .result) ≡ 200 = search needs in
-    ((omega arith, omega arith, omega arith), (p .0, ap (λ (rs : List (List ℕ)). fits 25 (putAll 25 rs (recs 25 t)) t) (c .before .before .checkpoint-rows .ensures) ∙ p .1 .1))
+    ((omega arith, omega arith, omega arith), (p .0, rw (c .before .before .checkpoint-rows .ensures) (p .1 .1)))
 
 same-length : tie.Need-same-length
 same-length c = search needs
 
 returns : tie.Need-returns
-returns c =
-    let t = c .before .before .before .before .before .before .before .args .t .now in
-    c .before .before .put-all .ensures ∙ ap (λ (rs : List (List ℕ)). laid (putAll 25 rs (recs 25 t)) t) (c .before .before .before .before .before .checkpoint-rows .ensures)
+returns c = rw (c .before .before .before .before .before .checkpoint-rows .ensures) at (c .before .before .put-all .ensures)
 
 pub put-checkpoints-spec : {M : Type 1} → statement M
 put-checkpoints-spec =
