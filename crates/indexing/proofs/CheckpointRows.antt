@@ -3,7 +3,6 @@
 use Prim.Native.Nat.{ℕ, suc, _+_, _-_, _*_, _^_, _≤_, _<_}
 use mathlib.Core.Path.{_≡_, refl, sym, ap, ap₂, _∙_}
 use mathlib.Core.List.{List, [], _∷_, _++_, map}
-use native.Mathlib.Nat.{zero-add}
 use native.Mathlib.Numerals.{add-one}
 use native.Mathlib.Omega.{arith}
 use lib.ListN.{length, take, getD, replicate, length-replicate}
@@ -14,7 +13,7 @@ use Rattle.octets.proofs.Places as P
 use Rattle.core.specs.declared.lsn.Lsn.{Lsn}
 use Rattle.rules.proofs.TableLaws.{map-append}
 use Rattle.table.specs.Table.{runs}
-use Rattle.table.proofs.Rows.{rows-le, runs-last, runs-same}
+use Rattle.table.proofs.Rows.{runs-last, runs-same}
 use Rattle.layout.specs.Records.{logLsnBytes, checkpointBytes}
 use Rattle.indexing.specs.Rows.{checkpoint, checkpointRow, listed, checkpointRows}
 use Rattle.indexing.proofs.EntryRows.{behind-zero}

@@ -1,7 +1,7 @@
 -- The loop that puts the entries in. It keeps the state of a merge from the back (`Merging`) in which the rows of the pages that are left are still to come: a turn
 -- merges the last of them, and where none is left the table is that of all the entries put in.
 use Prim.Native.Nat.{ℕ, _+_, _-_, _*_, _≤_, _<_}
-use mathlib.Core.Path.{_≡_, refl, sym, ap, _∙_, subst}
+use mathlib.Core.Path.{_≡_, sym, ap, _∙_, subst}
 use mathlib.Core.Bool.{true}
 use mathlib.Core.List.{List, [], _∷_, _++_}
 use native.Mathlib.Omega.{arith}
@@ -20,7 +20,6 @@ use Rattle.batch.proofs.Puts.{news-rising}
 use Rattle.batch.proofs.Merges.{Merging, Ready, total-small, total-room, merging-start, merging-next, next-ready, merging-done}
 use Rattle.pagesdown.specs.Down.{pagesLeft}
 use Rattle.indexing.specs.Rows.{entryRow, withPage, entryRows}
-use Rattle.indexing.proofs.EntryRows.{row-long}
 use Rattle.indexing.proofs.EntryTurns.{pageRows, rows-last, all-left, all-rise, all-long}
 
 -- the merge under way: t₀ was the table, `all` are the pages, ps are those that are left, c keys are new

@@ -1,10 +1,10 @@
 -- The rows of index entries: their bytes, as `entry_row` and `with_page` store them; and that the rows of rising pages rise, since all else in them is the same.
-use Prim.Native.Nat.{ℕ, suc, _+_, _-_, _^_, _≤_, _<_}
+use Prim.Native.Nat.{ℕ, suc, _+_, _-_, _^_, _<_}
 use mathlib.Core.Path.{_≡_, refl, sym, ap, ap₂, _∙_}
 use mathlib.Core.Bool.{true}
 use mathlib.Core.List.{List, [], _∷_, _++_, map, append-nil, append-assoc}
 use native.Mathlib.Omega.{arith}
-use lib.ListN.{length, take, drop, replicate, length-append, length-replicate, drop-of-length-le}
+use lib.ListN.{length, drop, replicate, length-append, length-replicate, drop-of-length-le}
 use lib.Seq.{take-at, drop-at}
 use Rattle.octets.specs.Bytes.{bytesOf, down, part, put}
 use Rattle.octets.specs.Order.{lex, thenBy}

@@ -1,7 +1,7 @@
 -- The turns of the loops over the entries of a commit. Both walk the pages of a set from the last down (`pagesdown`), and make each row from one row by putting
 -- the page in, so what is still to do is the rows of the pages that are left, and a turn takes the last of them.
 -- The loop that counts keeps "the count so far and that of what is left are that of all".
-use Prim.Native.Nat.{ℕ, _+_, _-_, _^_, _≤_, _<_}
+use Prim.Native.Nat.{ℕ, _+_, _-_}
 use mathlib.Core.Path.{_≡_, refl, sym, ap, ap₂, _∙_, subst}
 use mathlib.Core.Bool.{true}
 use mathlib.Core.List.{List, [], _∷_, _++_, map, map-map}

@@ -6,15 +6,14 @@ use mathlib.Core.Path.{_≡_, refl, sym, ap, _∙_, subst}
 use mathlib.Core.Logic.{⊎-elim}
 use mathlib.Core.Bool.{Bool, true, false, cond, _&&_}
 use mathlib.Core.List.{List, [], _∷_, _++_, append-nil, append-assoc, reverse, reverse-append}
-use native.Mathlib.Nat.{add-comm}
 use native.Mathlib.Omega.{arith}
 use borrow.Author.Tests.{eqb-true, eqb-false}
 use lib.Dec.{eqb, leb}
 use lib.ListN.{length, take, drop, getD, length-append}
-use lib.Seq.{take-suc, getD-take}
+use lib.Seq.{take-suc}
 use Rattle.pageset.specs.declared.Window.{Window}
 use Rattle.pageset.specs.declared.PageSet.{PageSet}
-use Rattle.pageset.specs.Sets.{bit, holds, shown, member, zeroWindow, blank, normal, normalForm}
+use Rattle.pageset.specs.Sets.{bit, shown, member, zeroWindow, blank, normal, normalForm}
 use Rattle.pageset.specs.Counts.{count}
 use Rattle.pageset.proofs.BitLaws.{bit-none}
 use Rattle.pageset.proofs.FormLaws.{Normal, normal-fact, and-snd}

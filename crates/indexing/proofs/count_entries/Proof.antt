@@ -1,11 +1,10 @@
 -- `indexing::count_entries` meets its contract. The invariant: the walk over the set's pages (`Walking`), and the count so far and that of the pages that are left
 -- are the whole; the measure: n, the pages that are left.
-use mathlib.Core.Path.{_≡_, sym, ap, _∙_}
-use Prim.Native.Nat.{ℕ, _+_, _-_, _≤_, _<_}
+use mathlib.Core.Path.{_≡_, _∙_}
+use Prim.Native.Nat.{_+_, _-_, _≤_}
 use borrow.Author.Needs.{needs}
 use native.Mathlib.Omega.{arith}
-use lib.ListN.{length, getD}
-use Rattle.pageset.specs.declared.PageSet.{PageSet}
+use lib.ListN.{length}
 use Rattle.table.specs.Table.{recs}
 use Rattle.batch.specs.Batch.{fresh}
 use Rattle.pagesdown.specs.Down.{pagesLeft}

@@ -2,14 +2,13 @@
 -- are left still to come (`Entering`); the measure: n, the pages that are left.
 use mathlib.Core.Path.{_≡_, refl, sym, ap, _∙_, subst}
 use mathlib.Core.List.{List, [], _∷_, _++_}
-use Prim.Native.Nat.{ℕ, _+_, _-_, _≤_, _<_}
+use Prim.Native.Nat.{ℕ, _+_, _-_}
 use borrow.Author.Needs.{needs}
 use native.Mathlib.Omega.{arith}
-use lib.ListN.{length, getD}
+use lib.ListN.{length}
 use Rattle.octets.specs.Bytes.{bytesOf}
 use Rattle.octets.specs.Bytes as B
 use Rattle.pageset.specs.Sets.{zeroWindow}
-use Rattle.table.specs.Table.{countOf}
 use Rattle.table.proofs.Checks.{well-two}
 use Rattle.batch.proofs.Merges.{Ready, total-small}
 use Rattle.pagesdown.specs.Down.{pagesLeft}
