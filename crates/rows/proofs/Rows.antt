@@ -72,6 +72,26 @@ module _ {R : Type 0} (c : Codec R) where
       mixed true false r s = sym (and-false r)
       mixed false q r s = refl
 
+  -- ---- the table in bytes: as many records as the count says, and room for as many as fit
+
+  pub length-rows : (t : List ℕ) → length (tableIn c t .rows) ≡ countOf t
+  unfolding tableIn
+  length-rows t = length-map (recs (c .size) t) (c .read) ∙ TR.length-recs (c .size) t
+
+  pub cap-is : (t : List ℕ) → capOf (c .size) t ≡ capacity (tableIn c t)
+  unfolding capOf tableIn
+  cap-is t = refl
+
+  -- bytes can hold n records where n is within the capacity of their table
+  pub holds-is : (n : ℕ) (t : List ℕ) → holds (c .size) n t ≡ leb n (capacity (tableIn c t))
+  unfolding holds
+  holds-is n t = ap (leb n) (cap-is t)
+
+  -- bytes can hold the rows of records where those fit in their table
+  pub fits-is : (l : List R) (t : List ℕ) → T.fits (c .size) (map (c .spell) l) t ≡ fits (over (tableIn c t) l)
+  unfolding fits
+  fits-is l t = holds-is (length (map (c .spell) l)) t ∙ ap (λ (n : ℕ). leb n (capacity (tableIn c t))) (length-map l (c .spell))
+
 -- ---- the bytes of records in form
 
 -- the count and the rows of a table
@@ -144,18 +164,9 @@ module _ {R K : Type 0} {c : Codec R} {k : ℕ} {form : R → Bool} {key : R →
 
   -- ---- formed bytes and the rules' table
 
-  -- as many as the bytes can hold
-  pub cap-is : (t : List ℕ) → capOf (c .size) t ≡ min (tableIn c t .room) 65535
-  unfolding capOf tableIn
-  cap-is t = refl
-
-  pub length-rows : (t : List ℕ) → length (tableIn c t .rows) ≡ countOf t
-  unfolding tableIn
-  length-rows t = length-map (recs (c .size) t) (c .read) ∙ TR.length-recs (c .size) t
-
   fits-count : (t : List ℕ) → fits (tableIn c t) ≡ leb (countOf t) (capOf (c .size) t)
   unfolding fits
-  fits-count t = ap₂ leb (length-rows t) (sym (cap-is t))
+  fits-count t = ap₂ leb (length-rows c t) (sym (cap-is c t))
 
   -- where each row is spelled, bytes of a table are formed just where the rules' table is
   pub formed-is : (t : List ℕ) → all (spelled c) (recs (c .size) t) ≡ true → 2 ≤ length t → formedIn c k form t ≡ formed key order form (tableIn c t)
@@ -171,24 +182,15 @@ module _ {R K : Type 0} {c : Codec R} {k : ℕ} {form : R → Bool} {key : R →
   pub formed-rules : (t : List ℕ) → formedIn c k form t ≡ true → formed key order form (tableIn c t) ≡ true
   formed-rules t e = sym (formed-is t (formed-spelled t e) (well-two (c .size) k t (formed-well t e))) ∙ e
 
+  pub formed-up : (t : List ℕ) → formedIn c k form t ≡ true → inOrder key order (tableIn c t .rows) ≡ true
+  formed-up t e = formed-parts key order (L .lawful) form (tableIn c t) (formed-rules t e) .up
+
   -- a table laid over the bytes that hold it
   pub laid-same : (t : List ℕ) → AreBytes t → formedIn c k form t ≡ true → laidOver c (tableIn c t) t ≡ t
   unfolding laidOver
   laid-same t b e =
       ap (λ (rs : List (List ℕ)). laid rs t) (sym (rows-are t e))
       ∙ TR.laid-self (c .size) t b (well-room (c .size) k t (L .sized) (formed-well t e))
-
-  -- ---- room
-
-  -- bytes can hold n records where n is within the capacity of their table
-  pub holds-is : (n : ℕ) (t : List ℕ) → holds (c .size) n t ≡ leb n (capacity (tableIn c t))
-  unfolding holds
-  holds-is n t = ap (leb n) (cap-is t)
-
-  -- bytes can hold the rows of records where those fit in their table
-  pub fits-is : (l : List R) (t : List ℕ) → T.fits (c .size) (map (c .spell) l) t ≡ fits (over (tableIn c t) l)
-  unfolding fits
-  fits-is l t = holds-is (length (map (c .spell) l)) t ∙ ap (λ (n : ℕ). leb n (capacity (tableIn c t))) (length-map l (c .spell))
 
   -- ---- a table of the rules laid over bytes
 
@@ -205,7 +207,7 @@ module _ {R K : Type 0} {c : Codec R} {k : ℕ} {form : R → Bool} {key : R →
       let q = formed-parts key order (L .lawful) form w f in
       let rs : List (List ℕ) = map (c .spell) (w .rows) in
       let same : over (tableIn c t) (w .rows) ≡ w = ap (λ (m : ℕ). record { room = m; rows = w .rows }) (sym r) in
-      let room : T.fits (c .size) rs t ≡ true = fits-is (w .rows) t ∙ ap fits same ∙ q .fit in
+      let room : T.fits (c .size) rs t ≡ true = fits-is c (w .rows) t ∙ ap fits same ∙ q .fit in
       let h = TE.laid-holds (c .size) k rs t (L .sized) two (each-spelled (w .rows) (q .forms)) room (rises-spelled (w .rows) (q .forms) ∙ q .up) in
       record {
         again = and-both (h .well) (ap (all (inForm c form)) (h .rows) ∙ inForm-spelled (w .rows) (q .forms));
@@ -220,7 +222,7 @@ module _ {R K : Type 0} {c : Codec R} {k : ℕ} {form : R → Bool} {key : R →
   pub fronts-same : (t u : List ℕ) → AreBytes t → AreBytes u → formedIn c k form t ≡ true → formedIn c k form u ≡ true → tableIn c t .rows ≡ tableIn c u .rows
       → part 0 (2 + countOf t * c .size) t ≡ part 0 (2 + countOf t * c .size) u
   fronts-same t u bt bu e f g =
-      let n : countOf t ≡ countOf u = sym (length-rows t) ∙ ap length g ∙ length-rows u in
+      let n : countOf t ≡ countOf u = sym (length-rows c t) ∙ ap length g ∙ length-rows c u in
       let rs : recs (c .size) t ≡ recs (c .size) u = rows-are t e ∙ ap (map (c .spell)) g ∙ sym (rows-are u f) in
       front-is (c .size) t bt (well-room (c .size) k t (L .sized) (formed-well t e))
       ∙ ap₂ (λ (m : ℕ) (l : List (List ℕ)). bytesOf 2 m ++ join l) n rs

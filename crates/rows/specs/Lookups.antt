@@ -1,8 +1,9 @@
 -- The first record at or after a key, and the records from a key to another: what a search in key order finds.
-use Prim.Native.Nat.{ℕ, zero, suc, Ordering, Ordering·lt, Ordering·eq, Ordering·gt}
+use Prim.Native.Nat.{ℕ, zero, suc, _-_, Ordering, Ordering·lt, Ordering·eq, Ordering·gt}
 use mathlib.Core.Bool.{Bool, true, false, cond, _&&_}
 use mathlib.Core.List.{List, [], _∷_}
 use mathlib.Core.Option.{Option, none, some}
+use lib.ListN.{take, drop}
 use Rattle.rules.specs.Lists.{first}
 
 -- record i, if there is one
@@ -10,6 +11,10 @@ abbrev pub nth : {A : Type 0} → ℕ → List A → Option A
 nth i [] = none
 nth zero (x ∷ xs) = some x
 nth (suc i) (x ∷ xs) = nth i xs
+
+-- the records from place i up to place j, that one not included
+abbrev pub stretch : {A : Type 0} → ℕ → ℕ → List A → List A
+stretch i j l = take (j - i) (drop i l)
 
 -- a record, if it is there and passes the test
 abbrev pub onlyIf : {A : Type 0} → (A → Bool) → Option A → Option A
