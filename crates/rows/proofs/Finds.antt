@@ -1,27 +1,26 @@
 -- What a search in a formed table finds, in the rules' words. Key bytes name a key of the rules where they stand to each record's bytes as it does to that
 -- record's key; then the spot of the bytes is the place of the key. The record of a key is the one at the spot; the first record that passes a test
 -- that holds from a key on is the one at the key's place; the run between two keys is the records whose keys lie between. Each by induction on the records.
-use Prim.Native.Nat.{ℕ, zero, suc, _+_, _-_, _*_, _<_, _≤_, Ordering, Ordering·lt, Ordering·eq, Ordering·gt}
+use Prim.Native.Nat.{ℕ, zero, suc, _+_, _-_, _*_, _<_, _≤_, Ordering, Ordering·lt}
 use mathlib.Core.Path.{_≡_, refl, sym, ap, ap₂, _∙_}
 use mathlib.Core.List.{List, [], _∷_, map}
-use mathlib.Core.Bool.{Bool, true, false, cond, not, _&&_}
+use mathlib.Core.Bool.{Bool, true, cond, not, _&&_}
 use mathlib.Core.Option.{Option, none, some, Option·map}
 use native.Mathlib.Omega.{arith}
 use native.Mathlib.Numerals.{add-one}
 use lib.Dec.{isEq}
-use lib.ListN.{length, take, drop, getD, length-map}
+use lib.ListN.{length, take, drop, getD}
 use lib.Seq.{drop-cons}
 use Rattle.octets.specs.Bytes.{part}
-use Rattle.octets.specs.Order.{lex, turned, ordering, isLess}
+use Rattle.octets.specs.Order.{turned, ordering, isLess}
 use Rattle.octets.specs.declared.Order.{Order}
 use Rattle.octets.specs.declared.Order.the-variants.{Less, Equal, Greater}
 use Rattle.octets.proofs.Orders.{lex-turned}
-use Rattle.core.proofs.OrderLaws.{Lawful}
 use Rattle.core.specs.Orders.{isLt}
 use Rattle.rules.specs.Lists.{first, those, all}
 use Rattle.rules.specs.Tables.{inOrder, get}
 use Rattle.rules.proofs.TableLaws.{cases, options, clash, lt-of, and-fst, and-snd, first-some, all-at, all-those}
-use Rattle.table.specs.Records.{cmp, rises, spotBy, spot, place, lookBy, look}
+use Rattle.table.specs.Records.{cmp, spotBy, spot, place, lookBy, look}
 use Rattle.table.specs.Table.{countOf, recs}
 use Rattle.table.specs.Run.{inRun, run, RunOf}
 use Rattle.table.specs.declared.Spot.{Spot}
@@ -130,6 +129,11 @@ not-above Less = refl
 not-above Equal = refl
 not-above Greater = refl
 
+run-those : (k : ℕ) (a b : List ℕ) (rs : List (List ℕ)) → run k a b rs ≡ those (inRun k a b) rs
+unfolding those
+run-those k a b [] = refl
+run-those k a b (x ∷ rs) = rw (run-those k a b rs)
+
 module _ {R K : Type 0} {c : Codec R} {k : ℕ} {form : R → Bool} {key : R → K} {order : K → K → Ordering} (L : Layout c k form key order) where
   -- the bytes kb name the key x
   abbrev pub Names : List ℕ → K → Type 0
@@ -195,22 +199,22 @@ module _ {R K : Type 0} {c : Codec R} {k : ℕ} {form : R → Bool} {key : R →
 
   -- ---- the records from a key to another
 
+  -- the rows that pass a test are the bytes of the records that pass it
+  pub those-spelled : (g : List ℕ → Bool) (f : R → Bool) → ((r : R) → form r ≡ true → g (c .spell r) ≡ f r) → (l : List R) → all form l ≡ true
+      → those g (map (c .spell) l) ≡ map (c .spell) (those f l)
+  unfolding those all
+  those-spelled g f h [] e = refl
+  those-spelled g f h (r ∷ l) e =
+      let w = h r (and-fst (form r) (all form l) e) in
+      let rest = those-spelled g f h l (and-snd (form r) (all form l) e) in
+      cases (f r) (λ q. rw (w, q) (ap (λ (m : List (List ℕ)). c .spell r ∷ m) rest)) (λ q. rw (w, q) rest)
+
   module _ (a b : List ℕ) (x y : K) (na : Names a x) (nb : Names b y) where
-    in-run : (r : R) → form r ≡ true → inRun k a b (c .spell r) ≡ within key order x y r
+    pub in-run : (r : R) → form r ≡ true → inRun k a b (c .spell r) ≡ within key order x y r
     in-run r f =
         ap₂ (λ (p q : Bool). p && q)
         (ap (λ (o : Order). not (isLess o)) (lex-turned (part 0 k a) (part 0 k (c .spell r))) ∙ not-below (cmp k a (c .spell r)) ∙ ap notGt (na r f))
         (not-above (cmp k b (c .spell r)) ∙ ap notLt (nb r f))
-
-    run-those : (l : List R) → all form l ≡ true → run k a b (map (c .spell) l) ≡ map (c .spell) (those (within key order x y) l)
-    unfolding those all
-    run-those [] e = refl
-    run-those (r ∷ l) e =
-        let f = and-fst (form r) (all form l) e in
-        let h = run-those l (and-snd (form r) (all form l) e) in
-        cases (within key order x y r)
-        (λ q. rw (in-run r f, q) (ap (λ (m : List (List ℕ)). c .spell r ∷ m) h))
-        (λ q. rw (in-run r f, q) h)
 
     -- the run between two keys is the records whose keys lie between them
     pub run-rows : (t : List ℕ) → formedIn c k form t ≡ true → (i j : ℕ) → RunOf (c .size) k a b t i j → stretch i j (tableIn c t .rows) ≡ those (within key order x y) (tableIn c t .rows)
@@ -220,5 +224,5 @@ module _ {R K : Type 0} {c : Codec R} {k : ℕ} {form : R → Bool} {key : R →
         let l : List R = map (c .read) rs in
         let f : all form l ≡ true = formed-forms L t e in
         sym (map-take (c .read) (j - i) (drop i rs) ∙ ap (take (j - i)) (map-drop (c .read) i rs))
-        ∙ ap (map (c .read)) (run-of (c .size) k a b t i j (well-rises (c .size) k t (formed-well L t e)) h ∙ ap (run k a b) (rows-are L t e) ∙ run-those l f)
+        ∙ ap (map (c .read)) (run-of (c .size) k a b t i j (well-rises (c .size) k t (formed-well L t e)) h ∙ run-those k a b rs ∙ ap (those (inRun k a b)) (rows-are L t e) ∙ those-spelled (inRun k a b) (within key order x y) in-run l f)
         ∙ read-spelled L (those (within key order x y) l) (all-those form (within key order x y) l f)

@@ -1,7 +1,7 @@
 -- What a kind of record must have for tables of it to be the rules' tables, and that formed bytes and the rules' table determine each other.
 -- A row in form is the bytes of the record that it spells, so the rows of a formed table are `map (c .spell) l` for the list l of its records; each law is
 -- shown on those lists, by induction on l, and carried to bytes by `rows-are`.
-use Prim.Native.Nat.{ℕ, _+_, _-_, _*_, _/_, _<_, _≤_, min, Ordering}
+use Prim.Native.Nat.{ℕ, _+_, _-_, _*_, _/_, _<_, _≤_, Ordering}
 use mathlib.Core.Path.{_≡_, refl, sym, ap, ap₂, _∙_}
 use mathlib.Core.List.{List, [], _∷_, _++_, map}
 use mathlib.Core.Bool.{Bool, true, false, _&&_, and-false}
@@ -10,7 +10,7 @@ use lib.ListN.{length, length-map}
 use lib.Dec.{leb}
 use borrow.Author.Tests.{le-leb}
 use Rattle.octets.specs.Bytes.{bytesOf, part, AreBytes}
-use Rattle.octets.specs.Order.{lex, ordering, isLess, isEqual}
+use Rattle.octets.specs.Order.{ordering, isLess, isEqual}
 use Rattle.octets.specs.declared.Order.{Order}
 use Rattle.octets.specs.declared.Order.the-variants.{Less, Equal, Greater}
 use Rattle.octets.proofs.Orders.{same-true, same-lex}
@@ -19,13 +19,13 @@ use Rattle.core.specs.Orders.{isLt}
 use Rattle.core.proofs.OrderLaws.{Lawful}
 use Rattle.rules.specs.Lists.{all}
 use Rattle.rules.specs.Tables.{Table, inOrder, capacity, fits, over, formed}
-use Rattle.rules.proofs.TableLaws.{cases, clash, and-fst, and-snd, and-both, all-map, formed-parts}
+use Rattle.rules.proofs.TableLaws.{cases, and-fst, and-snd, and-both, formed-parts}
 use Rattle.rules.proofs.Loops.{stepwise, stepwise-is}
 use Rattle.table.specs.Records.{cmp, rises}
-use Rattle.table.specs.Table.{runs, join, Each, countOf, capOf, recs, laid, wellOrdered, holds}
+use Rattle.table.specs.Table.{join, Each, countOf, capOf, recs, laid, wellOrdered, holds}
 use Rattle.table.specs.Table as T
 use Rattle.table.proofs.Rows as TR
-use Rattle.table.proofs.Checks.{well-two, well-count, well-rises, well-room, well-made}
+use Rattle.table.proofs.Checks.{well-two, well-room}
 use Rattle.table.proofs.Ends as TE
 use Rattle.layout.specs.Codecs.{Codec, spelled, inForm, Holds}
 use Rattle.layout.specs.Tables.{formedIn, tableIn, laidOver}
