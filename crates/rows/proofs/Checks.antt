@@ -15,9 +15,10 @@ use Rattle.rules.proofs.Loops.{all-step}
 use Rattle.table.specs.Table.{countOf, recs, wellOrdered}
 use Rattle.table.proofs.Rows.{rows-lt, length-recs, recs-at}
 use Rattle.table.proofs.Checks.{well-room}
-use Rattle.layout.specs.Codecs.{Codec, inForm, spelled}
+use Rattle.layout.specs.Codecs.{Codec, inForm}
 use Rattle.layout.specs.Tables.{formedIn}
-use Rattle.rows.proofs.Rows.{Layout, spelled-is, formed-well}
+use Rattle.layout.proofs.HoldLaws.{in-form}
+use Rattle.rows.proofs.Rows.{Layout, formed-well}
 use Rattle.rows.proofs.Finds.{rowAt}
 
 -- ---- the loop
@@ -82,10 +83,8 @@ module _ {R K : Type 0} {c : Codec R} {k : ℕ} {form : R → Bool} {key : R →
 
   -- the record that it spells is in form
   pub row-form : form (rowAt c t i) ≡ true
-  unfolding inForm
-  row-form = and-snd (spelled c (part (2 + i * c .size) (c .size) t)) (form (rowAt c t i)) row-test
+  row-form = in-form c form (part (2 + i * c .size) (c .size) t) row-test .1
 
   -- and the row is that record's bytes
   pub row-spelled : c .spell (rowAt c t i) ≡ part (2 + i * c .size) (c .size) t
-  unfolding inForm
-  row-spelled = spelled-is c (part (2 + i * c .size) (c .size) t) (and-fst (spelled c (part (2 + i * c .size) (c .size) t)) (form (rowAt c t i)) row-test)
+  row-spelled = in-form c form (part (2 + i * c .size) (c .size) t) row-test .0

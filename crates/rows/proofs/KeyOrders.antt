@@ -19,9 +19,8 @@ use Rattle.core.specs.Orders.{bytes, both, up, next}
 use Rattle.core.specs.Orders as C
 use Rattle.core.proofs.OrderLaws.{Lawful, ordering-then, ordering-lex}
 use Rattle.table.specs.Records.{cmp}
-use Rattle.layout.specs.Codecs.{Codec, number, complement, raw, padded, reserved, pair, Holds}
+use Rattle.layout.specs.Codecs.{Codec, number, complement, raw, padded, reserved, pair, viewed, Holds}
 use Rattle.rows.proofs.Rows.{Layout}
-use Rattle.rows.proofs.Finds.{Names}
 
 -- the bytes of keys that are ok have one length and stand as the keys do
 pub record KeyOrder {K : Type 0} (c : Codec K) (ok : K → Type 0) (order : K → K → Ordering) : Type 0 where
@@ -92,7 +91,7 @@ below ys a b h e =
 
 -- names that are filled up to one length, and then their lengths
 filled : (x y : List ℕ) (a b : ℕ) → length x + a ≡ length y + b → thenBy (lex (x ++ replicate a 0) (y ++ replicate b 0)) (order (length x) (length y)) ≡ lex x y
-unfolding lex
+unfolding lex turned
 filled [] [] a b e =
     let q : a ≡ b = omega arith in
     ap₂ thenBy (O.same-lex (replicate a 0) (replicate b 0) (ap (λ (n : ℕ). replicate n 0) q)) (O.order-equal 0 0 refl) ∙ O.then-equal Equal
@@ -119,3 +118,38 @@ padded-order n small = record {
   where
     wide : (x : List ℕ) → length x ≤ n → length (x ++ replicate (n - length x) 0) ≡ n
     wide x h = length-append x (replicate (n - length x) 0) ∙ omega (arith, length-replicate {A = ℕ} (n - length x) 0)
+
+-- ---- a key in front of a record's bytes
+
+-- a record's bytes are those of its key and then others, and the key of a record in form is ok
+pub record Fronted {R K : Type 0} (c : Codec R) (d : Codec K) (form : R → Bool) (key : R → K) (ok : K → Type 0) : Type 0 where
+  pub rest : R → List ℕ
+  pub spells : (r : R) → c .spell r ≡ d .spell (key r) ++ rest r
+  pub okay : (r : R) → form r ≡ true → ok (key r)
+
+-- a form whose first part is the key, and one that is the key and no more
+module _ {R K : Type 0} (d : Codec K) (form : R → Bool) (ok : K → Type 0) where
+  pub pair-front : {B : Type 0} (e : Codec B) (to : K × B → R) (parts : R → K × B) → ((r : R) → form r ≡ true → ok (parts r .0)) → Fronted (viewed (pair d e) to parts) d form (λ r. parts r .0) ok
+  pair-front e to parts h = record { rest = λ r. e .spell (parts r .1); spells = λ r. refl; okay = h }
+
+  pub whole-front : (to : K → R) (parts : R → K) → ((r : R) → form r ≡ true → ok (parts r)) → Fronted (viewed d to parts) d form parts ok
+  whole-front to parts h = record { rest = λ r. []; spells = λ r. sym (append-nil (d .spell (parts r))); okay = h }
+
+module _ {R K : Type 0} {c : Codec R} {d : Codec K} {form : R → Bool} {key : R → K} {ok : K → Type 0} {order : K → K → Ordering}
+    (F : Fronted c d form key ok) (A : KeyOrder d ok order) where
+  front-key : (r : R) → form r ≡ true → part 0 (d .size) (c .spell r) ≡ d .spell (key r)
+  front-key r f = ap (part 0 (d .size)) (F .spells r) ∙ part-front (d .size) (d .spell (key r) ++ F .rest r) ∙ take-at (d .spell (key r)) (F .rest r) (d .size) (A .long (key r) (F .okay r f))
+
+  -- the key's bytes in front of others name it
+  pub front-names : (kb : List ℕ) (x : K) → ok x → part 0 (d .size) kb ≡ d .spell x → (r : R) → form r ≡ true → ordering (cmp (d .size) kb (c .spell r)) ≡ order x (key r)
+  front-names kb x h e r f = ap₂ (λ (a b : List ℕ). ordering (lex a b)) e (front-key r f) ∙ A .stand x (key r) h (F .okay r f)
+
+  -- the layout of a record with that key
+  pub front-layout : Lawful order → 0 < c .size → d .size ≤ c .size → ((r : R) → form r ≡ true → Holds c r) → Layout c (d .size) form key order
+  front-layout O p s h = record {
+    lawful = O;
+    sized = p;
+    short = s;
+    holds = h;
+    ordered = λ a b f g. front-names (c .spell a) (key a) (F .okay a f) (front-key a f) b g;
+  }

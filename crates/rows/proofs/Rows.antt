@@ -10,10 +10,9 @@ use lib.ListN.{length, length-map}
 use lib.Dec.{leb}
 use borrow.Author.Tests.{le-leb}
 use Rattle.octets.specs.Bytes.{bytesOf, part, AreBytes}
-use Rattle.octets.specs.Order.{ordering, isLess, isEqual}
+use Rattle.octets.specs.Order.{ordering, isLess}
 use Rattle.octets.specs.declared.Order.{Order}
 use Rattle.octets.specs.declared.Order.the-variants.{Less, Equal, Greater}
-use Rattle.octets.proofs.Orders.{same-true, same-lex}
 use Rattle.octets.proofs.Places as P
 use Rattle.core.specs.Orders.{isLt}
 use Rattle.core.proofs.OrderLaws.{Lawful}
@@ -29,6 +28,7 @@ use Rattle.table.proofs.Checks.{well-two, well-room}
 use Rattle.table.proofs.Ends as TE
 use Rattle.layout.specs.Codecs.{Codec, spelled, inForm, Holds}
 use Rattle.layout.specs.Tables.{formedIn, tableIn, laidOver}
+use Rattle.layout.proofs.HoldLaws.{spelled-is, held-form}
 
 -- the records of a table: c has their bytes, the first k of which are the key; form is what document 01 asks of each
 pub record Layout {R K : Type 0} (c : Codec R) (k : ℕ) (form : R → Bool) (key : R → K) (order : K → K → Ordering) : Type 0 where
@@ -38,28 +38,15 @@ pub record Layout {R K : Type 0} (c : Codec R) (k : ℕ) (form : R → Bool) (ke
   pub holds : (x : R) → form x ≡ true → Holds c x
   pub ordered : (a b : R) → form a ≡ true → form b ≡ true → ordering (cmp k (c .spell a) (c .spell b)) ≡ order (key a) (key b)
 
--- ---- one row
+-- ---- rows that are spelled
 
 module _ {R : Type 0} (c : Codec R) where
-  -- bytes that pass the test are those of the value that they spell
-  pub spelled-is : (b : List ℕ) → spelled c b ≡ true → c .spell (c .read b) ≡ b
-  unfolding spelled
-  spelled-is b e = same-true (c .spell (c .read b)) b e
-
-  pub spelled-own : (x : R) → Holds c x → spelled c (c .spell x) ≡ true
-  unfolding spelled
-  spelled-own x h = ap isEqual (same-lex (c .spell (c .read (c .spell x))) (c .spell x) (ap (c .spell) (h .back)))
-
-  pub inForm-own : (form : R → Bool) (x : R) → Holds c x → form x ≡ true → inForm c form (c .spell x) ≡ true
-  unfolding inForm
-  inForm-own form x h e = and-both (spelled-own x h) (ap form (h .back) ∙ e)
-
   -- rows that pass the test
   pub spelled-rows : (rs : List (List ℕ)) → all (spelled c) rs ≡ true → map (c .spell) (map (c .read) rs) ≡ rs
   unfolding all
   spelled-rows [] e = refl
   spelled-rows (b ∷ rs) e =
-      ap₂ (λ (x : List ℕ) (l : List (List ℕ)). x ∷ l) (spelled-is b (and-fst (spelled c b) (all (spelled c) rs) e)) (spelled-rows rs (and-snd (spelled c b) (all (spelled c) rs) e))
+      ap₂ (λ (x : List ℕ) (l : List (List ℕ)). x ∷ l) (spelled-is c b (and-fst (spelled c b) (all (spelled c) rs) e)) (spelled-rows rs (and-snd (spelled c b) (all (spelled c) rs) e))
 
   -- the test of a row is that of its bytes and that of its record
   pub inForm-rows : (form : R → Bool) (rs : List (List ℕ)) → all (inForm c form) rs ≡ (all (spelled c) rs && all form (map (c .read) rs))
@@ -122,7 +109,7 @@ module _ {R K : Type 0} {c : Codec R} {k : ℕ} {form : R → Bool} {key : R →
   inForm-spelled [] e = refl
   inForm-spelled (x ∷ l) e =
       let f = and-fst (form x) (all form l) e in
-      and-both (inForm-own c form x (L .holds x f) f) (inForm-spelled l (and-snd (form x) (all form l) e))
+      and-both (held-form c form (L .holds x f) f) (inForm-spelled l (and-snd (form x) (all form l) e))
 
   rises-stepwise : (l : List R) → all form l ≡ true → rises k (map (c .spell) l) ≡ stepwise key order l
   unfolding all
