@@ -8,7 +8,7 @@ use mathlib.Core.Bool.{Bool, true, cond, not, _&&_}
 use mathlib.Core.Option.{Option, none, some, Option·map}
 use native.Mathlib.Omega.{arith}
 use native.Mathlib.Numerals.{add-one}
-use lib.Dec.{isEq}
+use lib.Dec.{isEq, isLe}
 use lib.ListN.{length, take, drop, getD}
 use lib.Seq.{drop-cons}
 use Rattle.octets.specs.Bytes.{part}
@@ -31,7 +31,7 @@ use Rattle.table.proofs.Checks.{well-rises}
 use Rattle.table.proofs.Runs.{run-of}
 use Rattle.layout.specs.Codecs.{Codec}
 use Rattle.layout.specs.Tables.{formedIn, tableIn}
-use Rattle.rows.specs.Lookups.{nth, stretch, onlyIf, notGt, notLt, from, within}
+use Rattle.rows.specs.Lookups.{nth, stretch, onlyIf, from, within}
 use Rattle.rows.proofs.Rows.{Layout, formed-well, formed-forms, formed-up, rows-are, read-spelled, length-rows}
 
 -- ---- the rules' side: of records in key order the first that passes a test is the first at or after a key, if that passes
@@ -39,8 +39,8 @@ use Rattle.rows.proofs.Rows.{Layout, formed-well, formed-forms, formed-
 module _ {R K : Type 0} (key : R → K) (order : K → K → Ordering) (form f : R → Bool) (x : K) where
   -- no record before the key passes, and of those from it on none passes after one that does not
   pub record FromOn : Type 0 where
-    pub after : (r : R) → form r ≡ true → f r ≡ true → notGt (order x (key r)) ≡ true
-    pub falling : (p q : R) → form p ≡ true → form q ≡ true → notGt (order x (key p)) ≡ true → order (key p) (key q) ≡ Ordering·lt → f q ≡ true → f p ≡ true
+    pub after : (r : R) → form r ≡ true → f r ≡ true → isLe (order x (key r)) ≡ true
+    pub falling : (p q : R) → form p ≡ true → form q ≡ true → isLe (order x (key p)) ≡ true → order (key p) (key q) ≡ Ordering·lt → f q ≡ true → f p ≡ true
 
   pub first-from : FromOn → (l : List R) → inOrder key order l ≡ true → all form l ≡ true → first f l ≡ onlyIf f (from key order x l)
   unfolding first from inOrder all
@@ -49,7 +49,7 @@ module _ {R K : Type 0} (key : R → K) (order : K → K → Ordering) (form f :
       let tops = and-fst (all (λ y. isLt (order (key z) (key y))) zs) (inOrder key order zs) up in
       let ez = and-fst (form z) (all form zs) e in
       let ezs = and-snd (form z) (all form zs) e in
-      cases (notGt (order x (key z)))
+      cases (isLe (order x (key z)))
       (λ p. cases (f z) (λ q. rw (p, q))
       (λ q. rw (p, q) (options (first f zs) (λ n. n)
       (λ y n. let s = first-some f zs n in
@@ -118,13 +118,13 @@ stretch-end i j l h =
 -- ---- the bytes of a key
 
 -- not below, not above: in bytes and as the rules have it
-not-below : (o : Order) → not (isLess (turned o)) ≡ notGt (ordering o)
+not-below : (o : Order) → not (isLess (turned o)) ≡ isLe (ordering o)
 unfolding turned
 not-below Less = refl
 not-below Equal = refl
 not-below Greater = refl
 
-not-above : (o : Order) → not (isLess o) ≡ notLt (ordering o)
+not-above : (o : Order) → not (isLess o) ≡ not (isLt (ordering o))
 not-above Less = refl
 not-above Equal = refl
 not-above Greater = refl
@@ -149,7 +149,7 @@ module _ {R K : Type 0} {c : Codec R} {k : ℕ} {form : R → Bool} {key : R →
   get-step Equal r g q e h = ap {B = Option R} some (sym e)
   get-step Greater r g q e h = h
 
-  from-step : (o : Order) (q : Spot) (r : R) (l : List R) (g : Option R) → g ≡ nth (place q) l → cond (notGt (ordering o)) (some r) g ≡ nth (place (spotBy o q)) (r ∷ l)
+  from-step : (o : Order) (q : Spot) (r : R) (l : List R) (g : Option R) → g ≡ nth (place q) l → cond (isLe (ordering o)) (some r) g ≡ nth (place (spotBy o q)) (r ∷ l)
   from-step Less q r l g e = refl
   from-step Equal q r l g e = refl
   from-step Greater (At i) r l g e = e
@@ -168,7 +168,7 @@ module _ {R K : Type 0} {c : Codec R} {k : ℕ} {form : R → Bool} {key : R →
     unfolding from first all
     from-look [] e = refl
     from-look (r ∷ l) e =
-        ap (λ (o : Ordering). cond (notGt o) (some r) (from key order x l)) (sym (n r (and-fst (form r) (all form l) e)))
+        ap (λ (o : Ordering). cond (isLe o) (some r) (from key order x l)) (sym (n r (and-fst (form r) (all form l) e)))
         ∙ from-step (cmp k kb (c .spell r)) (spot k kb (map (c .spell) l)) r l (from key order x l) (from-look l (and-snd (form r) (all form l) e))
 
     module _ (t : List ℕ) (e : formedIn c k form t ≡ true) where
@@ -213,8 +213,8 @@ module _ {R K : Type 0} {c : Codec R} {k : ℕ} {form : R → Bool} {key : R →
     pub in-run : (r : R) → form r ≡ true → inRun k a b (c .spell r) ≡ within key order x y r
     in-run r f =
         ap₂ (λ (p q : Bool). p && q)
-        (ap (λ (o : Order). not (isLess o)) (lex-turned (part 0 k a) (part 0 k (c .spell r))) ∙ not-below (cmp k a (c .spell r)) ∙ ap notGt (na r f))
-        (not-above (cmp k b (c .spell r)) ∙ ap notLt (nb r f))
+        (ap (λ (o : Order). not (isLess o)) (lex-turned (part 0 k a) (part 0 k (c .spell r))) ∙ not-below (cmp k a (c .spell r)) ∙ ap isLe (na r f))
+        (not-above (cmp k b (c .spell r)) ∙ ap (λ (o : Ordering). not (isLt o)) (nb r f))
 
     -- the run between two keys is the records whose keys lie between them
     pub run-rows : (t : List ℕ) → formedIn c k form t ≡ true → (i j : ℕ) → RunOf (c .size) k a b t i j → stretch i j (tableIn c t .rows) ≡ those (within key order x y) (tableIn c t .rows)

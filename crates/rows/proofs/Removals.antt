@@ -5,23 +5,24 @@ use mathlib.Core.Path.{_≡_, refl, sym, ap, ap₂, _∙_}
 use mathlib.Core.List.{List, [], _∷_, _++_, map}
 use mathlib.Core.Bool.{Bool, true, false, not, _&&_}
 use native.Mathlib.Omega.{arith}
-use lib.Dec.{isEq}
+use lib.Dec.{isEq, isLe}
 use lib.ListN.{length, take, drop, getD, length-take, length-drop, take-append-drop}
 use lib.Seq.{getD-take, getD-drop, drop-drop}
+use Rattle.core.specs.Orders.{isLt}
 use Rattle.rules.specs.Lists.{those}
 use Rattle.rules.specs.Tables.{over, remove}
 use Rattle.rules.proofs.TableLaws.{cases, those-append, formed-remove}
 use Rattle.table.specs.Records.{rises, spot, place, past, removed}
 use Rattle.table.specs.Table.{countOf, recs, laid}
 use Rattle.table.specs.Run.{inRun, RunOf}
-use Rattle.table.specs.declared.Spot.the-variants.{At}
+use Rattle.table.specs.declared.Spot.the-variants.{At, Gap}
 use Rattle.table.proofs.Rows.{length-recs}
-use Rattle.table.proofs.Spots.{at-lt}
+use Rattle.table.proofs.Spots.{at-lt, gap-le}
 use Rattle.table.proofs.Checks.{well-two, well-rises}
 use Rattle.table.proofs.Runs as Run
 use Rattle.layout.specs.Codecs.{Codec}
 use Rattle.layout.specs.Tables.{formedIn, tableIn, laidOver}
-use Rattle.rows.specs.Lookups.{notGt, notLt, within}
+use Rattle.rows.specs.Lookups.{within}
 use Rattle.rows.proofs.Rows.{Layout, Laid, formed-well, formed-forms, formed-rules, rows-are, laid-holds}
 use Rattle.rows.proofs.Finds.{Names, in-run, those-spelled, run-rows, stretch-end}
 
@@ -65,7 +66,7 @@ none-go {A} f (x ∷ l) e =
     (λ q. rw q (ap (λ (m : List A). x ∷ m) (none-go f l (rw q at e))))
 
 -- a key that is not below x and not above it is x
-one-key : (o : Ordering) → (notGt o && notLt o) ≡ isEq o
+one-key : (o : Ordering) → (isLe o && not (isLt o)) ≡ isEq o
 one-key Ordering·lt = refl
 one-key Ordering·eq = refl
 one-key Ordering·gt = refl
@@ -101,11 +102,22 @@ module _ {R K : Type 0} {c : Codec R} {k : ℕ} {form : R → Bool} {key : R →
     unfolding laidOver
     run-laid ij = ap (λ (rs : List (List ℕ)). laid rs t) (rest-rows ij)
 
-  -- the bytes after the record of a key went
-  pub remove-laid : (kb : List ℕ) (x : K) → Names L kb x → (i : ℕ) → spot k kb (recs (c .size) t) ≡ At i
-      → laid (removed i (recs (c .size) t)) t ≡ laidOver c (remove (λ r. isEq (order x (key r))) (tableIn c t)) t
-  remove-laid kb x n i p =
-      let l : i < countOf t = omega (arith, at-lt k kb (recs (c .size) t) i p, length-recs (c .size) t) in
-      let h : RunOf (c .size) k kb kb t i (suc i) = record { begins = sym (ap place p); ends = omega (arith, ap past p); inside = (omega arith, l) } in
-      run-laid kb kb x x n n i (suc i) h (omega arith)
-      ∙ ap (λ (f : R → Bool). laidOver c (remove f (tableIn c t)) t) (λ d r. one-key (order x (key r)) d)
+  -- ---- the record of a key: the run from the key to itself
+
+  module _ (kb : List ℕ) (x : K) (n : Names L kb x) where
+    one-record : _≡_ {A = R → Bool} (within key order x x) (λ r. isEq (order x (key r)))
+    one-record d r = one-key (order x (key r)) d
+
+    -- the bytes after it went
+    pub remove-laid : (i : ℕ) → spot k kb (recs (c .size) t) ≡ At i → laid (removed i (recs (c .size) t)) t ≡ laidOver c (remove (λ r. isEq (order x (key r))) (tableIn c t)) t
+    remove-laid i p =
+        let l : i < countOf t = omega (arith, at-lt k kb (recs (c .size) t) i p, length-recs (c .size) t) in
+        let h : RunOf (c .size) k kb kb t i (suc i) = record { begins = sym (ap place p); ends = omega (arith, ap past p); inside = (omega arith, l) } in
+        run-laid kb kb x x n n i (suc i) h (omega arith) ∙ ap (λ (f : R → Bool). laidOver c (remove f (tableIn c t)) t) one-record
+
+    -- where there is none, nothing goes
+    pub remove-gap : (i : ℕ) → spot k kb (recs (c .size) t) ≡ Gap i → remove (λ r. isEq (order x (key r))) (tableIn c t) ≡ tableIn c t
+    remove-gap i p =
+        let l : i ≤ countOf t = omega (arith, gap-le k kb (recs (c .size) t) i p, length-recs (c .size) t) in
+        let h : RunOf (c .size) k kb kb t i i = record { begins = sym (ap place p); ends = omega (arith, ap past p); inside = (l, l) } in
+        ap (λ (f : R → Bool). remove f (tableIn c t)) (sym one-record) ∙ run-empty kb kb x x n n i i h (omega arith)

@@ -1,7 +1,7 @@
 -- The six tables: the order of each key's bytes by its parts, the layout of each record, and the bytes that name a key. What is in document 01's form is
 -- within the limits of its bytes, so its key is.
 use Prim.Native.Nat.{ℕ, _^_, _<_, _≤_}
-use mathlib.Core.Path.{_≡_}
+use mathlib.Core.Path.{_≡_, refl}
 use mathlib.Core.List.{List, _∷_}
 use mathlib.Core.Bool.{true, _&&_}
 use native.Mathlib.Omega.{arith}
@@ -64,7 +64,7 @@ sid-page-order = reserved-order (pair-order (raw-order 16) (complement-order 4))
 id-ok : (x : Id) → idForm x ≡ true → OkId x
 id-ok x f = bytes-held 16 x f .long
 
-volume-ok : (v : Volume) → volumeForm v ≡ true → OkId (v .vid)
+pub volume-ok : (v : Volume) → volumeForm v ≡ true → OkId (v .vid)
 unfolding volumeForm
 volume-ok v f = id-ok (v .vid) (search (and-fst, f))
 
@@ -72,25 +72,25 @@ name-ok : (x : Name) → nameForm x ≡ true → OkName x
 unfolding nameForm nameLength
 name-ok x f = leb-true (length x) 32 (search (and-fst, and-snd))
 
-tag-ok : (g : Tag) → tagForm g ≡ true → OkName (g .name)
+pub tag-ok : (g : Tag) → tagForm g ≡ true → OkName (g .name)
 unfolding tagForm
 tag-ok g f = name-ok (g .name) (and-fst (nameForm (g .name)) (idForm (g .vid)) f)
 
-commit-ok : (c : Commit) → commitForm c ≡ true → OkLogLsn (commitKey c)
+pub commit-ok : (c : Commit) → commitForm c ≡ true → OkLogLsn (commitKey c)
 unfolding commitForm
 commit-ok c f =
     let h : idForm (c .log) && lsnForm (c .lsn) ≡ true = search and-fst depth 7 in
     (id-ok (c .log) (search (and-fst, h)), lsn-bound (c .lsn) (search (and-snd, h)))
 
-checkpoint-ok : (k : Checkpoint) → checkpointForm k ≡ true → OkLogLsn (checkpointKey k)
+pub checkpoint-ok : (k : Checkpoint) → checkpointForm k ≡ true → OkLogLsn (checkpointKey k)
 unfolding checkpointForm
 checkpoint-ok k f = (id-ok (k .log) (and-fst (idForm (k .log)) (lsnForm (k .lsn)) f), lsn-bound (k .lsn) (and-snd (idForm (k .log)) (lsnForm (k .lsn)) f))
 
-entry-ok : (e : Entry) → entryForm e ≡ true → OkLogPageLsn (entryKey e)
+pub entry-ok : (e : Entry) → entryForm e ≡ true → OkLogPageLsn (entryKey e)
 unfolding entryForm
 entry-ok e f = (id-ok (e .log) (search (and-fst, and-snd)), (page-bound (e .page) (search (and-fst, and-snd)), lsn-bound (e .lsn) (search (and-fst, and-snd))))
 
-present-ok : (p : Present) → presentForm p ≡ true → OkSidPage (presentKey p)
+pub present-ok : (p : Present) → presentForm p ≡ true → OkSidPage (presentKey p)
 unfolding presentForm
 present-ok p f = (id-ok (p .sid) (search (and-fst, f)), page-bound (p .page) (search (and-snd, f)))
 
@@ -120,31 +120,55 @@ present-front : Fronted presentBytes sidPageBytes presentForm presentKey OkSidPa
 unfolding presentBytes
 present-front = whole-front sidPageBytes presentForm OkSidPage presentOf presentParts present-ok
 
+-- ---- the bytes of a record
+
+pub volume-size : volumeBytes .size ≡ 117
+unfolding volumeBytes syncBytes pendingBytes
+volume-size = refl
+
+pub tag-size : tagBytes .size ≡ 50
+unfolding tagBytes
+tag-size = refl
+
+pub commit-size : commitBytes .size ≡ 722
+unfolding commitBytes logLsnBytes segmentBytes setBytes framesBytes windowBytes frameBytes
+commit-size = refl
+
+pub checkpoint-size : checkpointBytes .size ≡ 25
+unfolding checkpointBytes logLsnBytes
+checkpoint-size = refl
+
+pub entry-size : entryBytes .size ≡ 29
+unfolding entryBytes logPageLsnBytes
+entry-size = refl
+
+pub present-size : presentBytes .size ≡ 21
+unfolding presentBytes sidPageBytes
+present-size = refl
+
 -- ---- the layouts
 
 pub volumes : Layout volumeBytes 17 volumeForm volumeKey bytes
-unfolding volumeBytes syncBytes pendingBytes
-volumes = front-layout volume-front id-order bytes-lawful (omega arith) (omega arith) volume-held
+volumes = front-layout volume-front id-order bytes-lawful (omega (arith, volume-size)) (omega (arith, volume-size)) volume-held
 
 pub tags : Layout tagBytes 34 tagForm tagKey bytes
-unfolding tagBytes
-tags = front-layout tag-front name-order bytes-lawful (omega arith) (omega arith) tag-held
+tags = front-layout tag-front name-order bytes-lawful (omega (arith, tag-size)) (omega (arith, tag-size)) tag-held
 
 pub commits : Layout commitBytes 25 commitForm commitKey logLsn
-unfolding commitBytes logLsnBytes segmentBytes setBytes framesBytes windowBytes frameBytes
-commits = front-layout commit-front log-lsn-order logLsn-lawful (omega arith) (omega arith) commit-held
+unfolding logLsnBytes
+commits = front-layout commit-front log-lsn-order logLsn-lawful (omega (arith, commit-size)) (omega (arith, commit-size)) commit-held
 
 pub checkpoints : Layout checkpointBytes 25 checkpointForm checkpointKey logLsn
-unfolding checkpointBytes logLsnBytes
-checkpoints = front-layout checkpoint-front log-lsn-order logLsn-lawful (omega arith) (omega arith) checkpoint-held
+unfolding logLsnBytes
+checkpoints = front-layout checkpoint-front log-lsn-order logLsn-lawful (omega (arith, checkpoint-size)) (omega (arith, checkpoint-size)) checkpoint-held
 
 pub index : Layout entryBytes 29 entryForm entryKey logPageLsn
-unfolding entryBytes logPageLsnBytes
-index = front-layout entry-front log-page-lsn-order logPageLsn-lawful (omega arith) (omega arith) entry-held
+unfolding logPageLsnBytes
+index = front-layout entry-front log-page-lsn-order logPageLsn-lawful (omega (arith, entry-size)) (omega (arith, entry-size)) entry-held
 
 pub presence : Layout presentBytes 21 presentForm presentKey sidPage
-unfolding presentBytes sidPageBytes
-presence = front-layout present-front sid-page-order sidPage-lawful (omega arith) (omega arith) present-held
+unfolding sidPageBytes
+presence = front-layout present-front sid-page-order sidPage-lawful (omega (arith, present-size)) (omega (arith, present-size)) present-held
 
 -- ---- bytes that begin with a key's bytes name it
 

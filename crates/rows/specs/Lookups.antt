@@ -1,9 +1,11 @@
 -- The first record at or after a key, and the records from a key to another: what a search in key order finds.
-use Prim.Native.Nat.{ℕ, zero, suc, _-_, Ordering, Ordering·lt, Ordering·eq, Ordering·gt}
-use mathlib.Core.Bool.{Bool, true, false, cond, _&&_}
+use Prim.Native.Nat.{ℕ, zero, suc, _-_, Ordering}
+use mathlib.Core.Bool.{Bool, cond, not, _&&_}
 use mathlib.Core.List.{List, [], _∷_}
 use mathlib.Core.Option.{Option, none, some}
+use lib.Dec.{isLe}
 use lib.ListN.{take, drop}
+use Rattle.core.specs.Orders.{isLt}
 use Rattle.rules.specs.Lists.{first}
 
 -- record i, if there is one
@@ -21,23 +23,11 @@ abbrev pub onlyIf : {A : Type 0} → (A → Bool) → Option A → Option A
 onlyIf f none = none
 onlyIf f (some x) = cond (f x) (some x) none
 
--- at or below
-abbrev pub notGt : Ordering → Bool
-notGt Ordering·lt = true
-notGt Ordering·eq = true
-notGt Ordering·gt = false
-
--- at or above
-abbrev pub notLt : Ordering → Bool
-notLt Ordering·lt = false
-notLt Ordering·eq = true
-notLt Ordering·gt = true
-
 module _ {R K : Type 0} (key : R → K) (order : K → K → Ordering) where
   -- the first record at or after a key
   unfoldable pub from : K → List R → Option R
-  from x l = first (λ r. notGt (order x (key r))) l
+  from x l = first (λ r. isLe (order x (key r))) l
 
   -- a record's key is not below x and not above y
   abbrev pub within : K → K → R → Bool
-  within x y r = notGt (order x (key r)) && notLt (order y (key r))
+  within x y r = isLe (order x (key r)) && not (isLt (order y (key r)))
