@@ -71,6 +71,9 @@ one-key Ordering·lt = refl
 one-key Ordering·eq = refl
 one-key Ordering·gt = refl
 
+pub within-one : {R K : Type 0} (key : R → K) (order : K → K → Ordering) (x : K) → _≡_ {A = R → Bool} (within key order x x) (λ r. isEq (order x (key r)))
+within-one key order x d r = one-key (order x (key r)) d
+
 module _ {R K : Type 0} {c : Codec R} {k : ℕ} {form : R → Bool} {key : R → K} {order : K → K → Ordering} (L : Layout c k form key order)
     (t : List ℕ) (e : formedIn c k form t ≡ true) where
   -- bytes that hold the table without the records that pass a test
@@ -105,19 +108,16 @@ module _ {R K : Type 0} {c : Codec R} {k : ℕ} {form : R → Bool} {key : R →
   -- ---- the record of a key: the run from the key to itself
 
   module _ (kb : List ℕ) (x : K) (n : Names L kb x) where
-    one-record : _≡_ {A = R → Bool} (within key order x x) (λ r. isEq (order x (key r)))
-    one-record d r = one-key (order x (key r)) d
-
     -- the bytes after it went
     pub remove-laid : (i : ℕ) → spot k kb (recs (c .size) t) ≡ At i → laid (removed i (recs (c .size) t)) t ≡ laidOver c (remove (λ r. isEq (order x (key r))) (tableIn c t)) t
     remove-laid i p =
         let l : i < countOf t = omega (arith, at-lt k kb (recs (c .size) t) i p, length-recs (c .size) t) in
         let h : RunOf (c .size) k kb kb t i (suc i) = record { begins = sym (ap place p); ends = omega (arith, ap past p); inside = (omega arith, l) } in
-        run-laid kb kb x x n n i (suc i) h (omega arith) ∙ ap (λ (f : R → Bool). laidOver c (remove f (tableIn c t)) t) one-record
+        run-laid kb kb x x n n i (suc i) h (omega arith) ∙ ap (λ (f : R → Bool). laidOver c (remove f (tableIn c t)) t) (within-one key order x)
 
     -- where there is none, nothing goes
     pub remove-gap : (i : ℕ) → spot k kb (recs (c .size) t) ≡ Gap i → remove (λ r. isEq (order x (key r))) (tableIn c t) ≡ tableIn c t
     remove-gap i p =
         let l : i ≤ countOf t = omega (arith, gap-le k kb (recs (c .size) t) i p, length-recs (c .size) t) in
         let h : RunOf (c .size) k kb kb t i i = record { begins = sym (ap place p); ends = omega (arith, ap past p); inside = (l, l) } in
-        ap (λ (f : R → Bool). remove f (tableIn c t)) (sym one-record) ∙ run-empty kb kb x x n n i i h (omega arith)
+        ap (λ (f : R → Bool). remove f (tableIn c t)) (sym (within-one key order x)) ∙ run-empty kb kb x x n n i i h (omega arith)

@@ -187,15 +187,16 @@ module _ {R K : Type 0} {c : Codec R} {k : ℕ} {form : R → Bool} {key : R →
     pub table : tableIn c u ≡ w
     pub size : length u ≡ length t
 
+  room-laid : (w : Table R) (t : List ℕ) → w .room ≡ tableIn c t .room → fits w ≡ true → T.fits (c .size) (map (c .spell) (w .rows)) t ≡ true
+  room-laid w t r f = fits-is c (w .rows) t ∙ ap (λ (m : ℕ). fits (record { room = m; rows = w .rows })) (sym r) ∙ f
+
   -- a table that the rules take, laid over bytes with its room
   pub laid-holds : (w : Table R) (t : List ℕ) → formed key order form w ≡ true → w .room ≡ tableIn c t .room → 2 ≤ length t → Laid w t (laidOver c w t)
   unfolding formedIn laidOver tableIn
   laid-holds w t f r two =
       let q = formed-parts key order (L .lawful) form w f in
       let rs : List (List ℕ) = map (c .spell) (w .rows) in
-      let same : over (tableIn c t) (w .rows) ≡ w = ap (λ (m : ℕ). record { room = m; rows = w .rows }) (sym r) in
-      let room : T.fits (c .size) rs t ≡ true = fits-is c (w .rows) t ∙ ap fits same ∙ q .fit in
-      let h = TE.laid-holds (c .size) k rs t (L .sized) two (each-spelled (w .rows) (q .forms)) room (rises-spelled (w .rows) (q .forms) ∙ q .up) in
+      let h = TE.laid-holds (c .size) k rs t (L .sized) two (each-spelled (w .rows) (q .forms)) (room-laid w t r (q .fit)) (rises-spelled (w .rows) (q .forms) ∙ q .up) in
       record {
         again = and-both (h .well) (ap (all (inForm c form)) (h .rows) ∙ inForm-spelled (w .rows) (q .forms));
         table =
@@ -204,6 +205,18 @@ module _ {R K : Type 0} {c : Codec R} {k : ℕ} {form : R → Bool} {key : R →
             (ap (map (c .read)) (h .rows) ∙ read-spelled (w .rows) (q .forms));
         size = h .size;
       }
+
+  -- over a table with no more records: what that left is gone
+  pub laid-after : (v w : Table R) (t : List ℕ) → formed key order form v ≡ true → formed key order form w ≡ true → w .room ≡ tableIn c t .room → 2 ≤ length t → length (v .rows) ≤ length (w .rows)
+      → laidOver c w (laidOver c v t) ≡ laidOver c w t
+  unfolding laidOver
+  laid-after v w t fv fw r two le =
+      let p = formed-parts key order (L .lawful) form v fv in
+      let q = formed-parts key order (L .lawful) form w fw in
+      let nv : length (map (c .spell) (v .rows)) ≡ length (v .rows) = length-map (v .rows) (c .spell) in
+      let nw : length (map (c .spell) (w .rows)) ≡ length (w .rows) = length-map (w .rows) (c .spell) in
+      TR.laid-laid (c .size) (map (c .spell) (v .rows)) (map (c .spell) (w .rows)) t (each-spelled (v .rows) (p .forms)) (each-spelled (w .rows) (q .forms)) (omega arith)
+      (TR.cap-room (c .size) (length (map (c .spell) (w .rows))) t (L .sized) two (TR.fits-cap (c .size) (length (map (c .spell) (w .rows))) t (room-laid w t r (q .fit))))
 
   -- two that hold the same records are equal on the count and the rows
   pub fronts-same : (t u : List ℕ) → AreBytes t → AreBytes u → formedIn c k form t ≡ true → formedIn c k form u ≡ true → tableIn c t .rows ≡ tableIn c u .rows

@@ -7,13 +7,13 @@ use mathlib.Core.Path.{_≡_, sym, ap, _∙_}
 use mathlib.Core.Bool.{Bool, true, not, _&&_, and-comm}
 use mathlib.Core.List.{List}
 use native.Mathlib.Omega.{arith}
-use lib.Dec.{leb, isLe}
+use lib.Dec.{isEq, leb, isLe}
 use borrow.Author.Tests.{leb-true, le-leb, lt-leb}
 use Rattle.core.specs.Numbers.{lastLsn, lastPage}
 use Rattle.core.specs.Orders.{next, up, down, bytes, both, logLsn, logPageLsn, sidPage, isLt}
 use Rattle.core.proofs.OrderLaws.{Lawful, equal, lt≢eq, gt≢lt, lt-up, up-lawful, bytes-lawful}
 use Rattle.rules.specs.Lists.{first, those, any, isSome}
-use Rattle.rules.specs.Records.{Id, Commit, Range, commitKey, checkpointKey, entryKey, presentKey}
+use Rattle.rules.specs.Records.{Id, Present, Commit, Range, commitKey, checkpointKey, entryKey, presentKey}
 use Rattle.rules.specs.Forms.{commitForm, checkpointForm, entryForm, presentForm}
 use Rattle.rules.specs.Tables.{sameId, latest, checkpointAt}
 use Rattle.rules.specs.Walk.{inRange}
@@ -28,6 +28,7 @@ use Rattle.layout.specs.Records.{commitBytes, checkpointBytes, entryBytes, pres
 use Rattle.layout.specs.Tables.{commitsIn, checkpointsIn, indexIn, presenceIn, commitsOk, checkpointsOk, indexOk, presenceOk}
 use Rattle.rows.specs.Lookups.{nth, stretch, onlyIf, within}
 use Rattle.rows.proofs.Finds.{Names, FromOn, first-place, run-rows}
+use Rattle.rows.proofs.Removals.{within-one}
 use Rattle.rows.proofs.Tables.{commits, checkpoints, index, presence, commit-ok, present-ok}
 
 -- ---- a pair of which the first part is given
@@ -148,3 +149,7 @@ range-run t e r a b na nb i j h =
 -- the pages of a segment from a to b are the run from b to a
 pub pages-are : (sid : Id) (a b : ℕ) → within presentKey sidPage (sid, b) (sid, a) ≡ presentIn sid a b
 pages-are sid a b d p = within-is presentKey presentForm sid b a p d
+
+-- one page is the record of its key
+pub page-is : (sid : Id) (page : ℕ) → _≡_ {A = Present → Bool} (λ p. isEq (sidPage (sid, page) (presentKey p))) (presentIn sid page page)
+page-is sid page = sym (within-one presentKey sidPage (sid, page)) ∙ pages-are sid page page

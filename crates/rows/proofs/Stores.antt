@@ -21,6 +21,7 @@ use Rattle.table.specs.Table as B
 use Rattle.table.specs.declared.Spot.the-variants.{At, Gap}
 use Rattle.table.proofs.Spots.{put-at, put-gap}
 use Rattle.table.proofs.Checks.{well-two}
+use Rattle.table.proofs.Ends.{room-at, room-gap}
 use Rattle.batch.specs.Batch as Many
 use Rattle.batch.proofs.Puts.{room-news}
 use Rattle.layout.specs.Codecs.{Codec}
@@ -86,7 +87,7 @@ module _ {R K : Type 0} {c : Codec R} {k : ℕ} {form : R → Bool} {key : R →
       store-holds h =
           laid-holds L (store key order r (tableIn c t)) t (Rules.formed-store key order (L .lawful) form r (tableIn c t) f (formed-rules L t e) h) refl (well-two (c .size) k t (formed-well L t e))
 
-      -- where the key was looked up by bytes that name it: in place of the record there, or before it
+      -- where the key was looked up by bytes that name it
       module _ (kb : List ℕ) (n : Names L kb (key r)) (i : ℕ) where
         own-spot : spot k (c .spell r) (recs (c .size) t) ≡ spot k kb (recs (c .size) t)
         own-spot =
@@ -94,11 +95,19 @@ module _ {R K : Type 0} {c : Codec R} {k : ℕ} {form : R → Bool} {key : R →
             ∙ names-spot (c .spell r) kb (key r) (names-own L r f) n (tableIn c t .rows) (formed-forms L t e)
             ∙ ap (spot k kb) (sym (rows-are L t e))
 
+        -- the record there gives way to it, which needs no room
         pub over-laid : spot k kb (recs (c .size) t) ≡ At i → laid (set (recs (c .size) t) i (c .spell r)) t ≡ laidOver c (store key order r (tableIn c t)) t
         over-laid p = ap (λ (rs : List (List ℕ)). laid rs t) (sym (put-at k (c .spell r) (recs (c .size) t) i (own-spot ∙ p))) ∙ put-laid
 
+        pub over-fits : spot k kb (recs (c .size) t) ≡ At i → fits (store key order r (tableIn c t)) ≡ true
+        over-fits p = sym put-fits ∙ sym (room-at (c .size) k t (c .spell r) i (spot k (c .spell r) (recs (c .size) t)) refl (own-spot ∙ p) (formed-well L t e))
+
+        -- or it goes in before that one, which needs room for one more
         pub insert-laid : spot k kb (recs (c .size) t) ≡ Gap i → laid (inserted i (c .spell r) (recs (c .size) t)) t ≡ laidOver c (store key order r (tableIn c t)) t
         insert-laid p = ap (λ (rs : List (List ℕ)). laid rs t) (sym (put-gap k (c .spell r) (recs (c .size) t) i (own-spot ∙ p))) ∙ put-laid
+
+        pub insert-fits : spot k kb (recs (c .size) t) ≡ Gap i → holds (c .size) (countOf t + 1) t ≡ fits (store key order r (tableIn c t))
+        insert-fits p = room-gap (c .size) k t (c .spell r) i (spot k (c .spell r) (recs (c .size) t)) refl (own-spot ∙ p) (holds (c .size) (countOf t + 1) t) refl ∙ put-fits
 
     -- ---- many records stored
 
