@@ -145,11 +145,12 @@ module _ {R K : Type 0} {c : Codec R} {d : Codec K} {form : R → Bool} {key : R
   front-names kb x h e r f = ap₂ (λ (a b : List ℕ). ordering (lex a b)) e (front-key r f) ∙ A .stand x (key r) h (F .okay r f)
 
   -- the layout of a record with that key
-  pub front-layout : Lawful order → 0 < c .size → d .size ≤ c .size → ((r : R) → form r ≡ true → Holds c r) → Layout c (d .size) form key order
-  front-layout O p s h = record {
+  pub front-layout : Lawful order → (s : ℕ) → c .size ≡ s → 0 < s → d .size ≤ s → ((r : R) → form r ≡ true → Holds c r) → Layout c s (d .size) form key order
+  front-layout O s e p l h = record {
     lawful = O;
+    wide = e;
     sized = p;
-    short = s;
+    short = l;
     holds = h;
     ordered = λ a b f g. front-names (c .spell a) (key a) (F .okay a f) (front-key a f) b g;
   }

@@ -15,13 +15,12 @@ use Rattle.rules.proofs.Rooms.{length-putAll}
 use Rattle.table.specs.Records as T
 use Rattle.table.specs.Table.{recs, laid}
 use Rattle.table.specs.Table as B
-use Rattle.table.proofs.Checks.{well-two}
 use Rattle.layout.specs.Codecs.{Codec}
 use Rattle.layout.specs.Tables.{formedIn, tableIn, laidOver}
-use Rattle.rows.proofs.Rows.{Layout, formed-well, formed-up, formed-rules, laid-same, laid-after}
+use Rattle.rows.proofs.Rows.{Layout, formed-two, formed-up, formed-rules, laid-same, laid-after}
 use Rattle.rows.proofs.Stores.{put-laid, put-fits, store-holds}
 
-module _ {R K : Type 0} {c : Codec R} {k : ℕ} {form : R → Bool} {key : R → K} {order : K → K → Ordering} (L : Layout c k form key order) where
+module _ {R K : Type 0} {c : Codec R} {s k : ℕ} {form : R → Bool} {key : R → K} {order : K → K → Ordering} (L : Layout c s k form key order) where
   -- u is on the way from t to w, with the records xs to come
   pub record Storing (xs : List R) (t : List ℕ) (w : Table R) (u : List ℕ) : Type 0 where
     pub forms : all form xs ≡ true
@@ -71,16 +70,16 @@ module _ {R K : Type 0} {c : Codec R} {k : ℕ} {form : R → Bool} {key : R →
         ∙ Rules.formed-storeAll key order (L .lawful) form xs (store key order x (tableIn c u)) next-all formed-next (ap fits next-coming ∙ h .room)
 
     -- there is room for the next
-    pub storing-fits : B.fits (c .size) (T.put k (c .spell x) (recs (c .size) u)) u ≡ true
+    pub storing-fits : B.fits s (T.put k (c .spell x) (recs s u)) u ≡ true
     storing-fits = put-fits L u (h .good) x next-form ∙ next-fits
 
     -- and after its put the others are to come
-    pub storing-next : (v : List ℕ) → v ≡ laid (T.put k (c .spell x) (recs (c .size) u)) u → Storing xs t w v
+    pub storing-next : (v : List ℕ) → v ≡ laid (T.put k (c .spell x) (recs s u)) u → Storing xs t w v
     storing-next v e =
         let s : Table R = store key order x (tableIn c u) in
         let d : v ≡ laidOver c s u = e ∙ put-laid L u (h .good) x next-form in
         let q = store-holds L u (h .good) x next-form next-fits in
-        let two = well-two (c .size) k u (formed-well L u (h .good)) in
+        let two = formed-two L u (h .good) in
         record {
           forms = next-all;
           good = ap (formedIn c k form) d ∙ q .again;

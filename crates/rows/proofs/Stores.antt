@@ -20,16 +20,15 @@ use Rattle.table.specs.Table.{countOf, recs, laid, holds}
 use Rattle.table.specs.Table as B
 use Rattle.table.specs.declared.Spot.the-variants.{At, Gap}
 use Rattle.table.proofs.Spots.{put-at, put-gap}
-use Rattle.table.proofs.Checks.{well-two}
 use Rattle.table.proofs.Ends.{room-at, room-gap}
 use Rattle.batch.specs.Batch as Many
 use Rattle.batch.proofs.Puts.{room-news}
 use Rattle.layout.specs.Codecs.{Codec}
 use Rattle.layout.specs.Tables.{formedIn, tableIn, laidOver}
-use Rattle.rows.proofs.Rows.{Layout, Laid, formed-well, formed-forms, formed-up, formed-rules, rows-are, fits-is, laid-holds}
+use Rattle.rows.proofs.Rows.{Layout, formed-two, Laid, formed-well, formed-forms, formed-up, formed-rules, rows-are, fits-is, laid-holds}
 use Rattle.rows.proofs.Finds.{Names, names-own}
 
-module _ {R K : Type 0} {c : Codec R} {k : ℕ} {form : R → Bool} {key : R → K} {order : K → K → Ordering} (L : Layout c k form key order) where
+module _ {R K : Type 0} {c : Codec R} {s k : ℕ} {form : R → Bool} {key : R → K} {order : K → K → Ordering} (L : Layout c s k form key order) where
   -- ---- puts
 
   put-step : (o : Order) (r x : R) (l m : List R) (rs : List (List ℕ)) → rs ≡ map (c .spell) m
@@ -67,69 +66,69 @@ module _ {R K : Type 0} {c : Codec R} {k : ℕ} {form : R → Bool} {key : R →
     -- ---- one record stored
 
     module _ (r : R) (f : form r ≡ true) where
-      put-rows : T.put k (c .spell r) (recs (c .size) t) ≡ map (c .spell) (put key order r (tableIn c t .rows))
+      put-rows : T.put k (c .spell r) (recs s t) ≡ map (c .spell) (put key order r (tableIn c t .rows))
       put-rows = ap (T.put k (c .spell r)) (rows-are L t e) ∙ put-spelled r f (tableIn c t .rows) (formed-forms L t e)
 
       -- the bytes after a put
-      pub put-laid : laid (T.put k (c .spell r) (recs (c .size) t)) t ≡ laidOver c (store key order r (tableIn c t)) t
+      pub put-laid : laid (T.put k (c .spell r) (recs s t)) t ≡ laidOver c (store key order r (tableIn c t)) t
       unfolding laidOver
       put-laid = ap (λ (rs : List (List ℕ)). laid rs t) put-rows
 
       -- there is room for it
-      pub put-fits : B.fits (c .size) (T.put k (c .spell r) (recs (c .size) t)) t ≡ fits (store key order r (tableIn c t))
-      put-fits = ap (λ (rs : List (List ℕ)). B.fits (c .size) rs t) put-rows ∙ fits-is c (put key order r (tableIn c t .rows)) t
+      pub put-fits : B.fits s (T.put k (c .spell r) (recs s t)) t ≡ fits (store key order r (tableIn c t))
+      put-fits = ap (λ (rs : List (List ℕ)). B.fits s rs t) put-rows ∙ fits-is L (put key order r (tableIn c t .rows)) t
 
-      pub put-room : B.fits (c .size) (T.put k (c .spell r) (recs (c .size) t)) t ≡ hasRoom key order (tableIn c t) (r ∷ [])
+      pub put-room : B.fits s (T.put k (c .spell r) (recs s t)) t ≡ hasRoom key order (tableIn c t) (r ∷ [])
       put-room = put-fits ∙ fits-store key order (L .lawful) r (tableIn c t) (formed-up L t e)
 
       -- and bytes that hold the table after it
       pub store-holds : fits (store key order r (tableIn c t)) ≡ true → Laid L (store key order r (tableIn c t)) t (laidOver c (store key order r (tableIn c t)) t)
       store-holds h =
-          laid-holds L (store key order r (tableIn c t)) t (Rules.formed-store key order (L .lawful) form r (tableIn c t) f (formed-rules L t e) h) refl (well-two (c .size) k t (formed-well L t e))
+          laid-holds L (store key order r (tableIn c t)) t (Rules.formed-store key order (L .lawful) form r (tableIn c t) f (formed-rules L t e) h) refl (formed-two L t e)
 
       -- where the key was looked up by bytes that name it
       module _ (kb : List ℕ) (n : Names L kb (key r)) (i : ℕ) where
-        own-spot : spot k (c .spell r) (recs (c .size) t) ≡ spot k kb (recs (c .size) t)
+        own-spot : spot k (c .spell r) (recs s t) ≡ spot k kb (recs s t)
         own-spot =
             ap (spot k (c .spell r)) (rows-are L t e)
             ∙ names-spot (c .spell r) kb (key r) (names-own L r f) n (tableIn c t .rows) (formed-forms L t e)
             ∙ ap (spot k kb) (sym (rows-are L t e))
 
         -- the record there gives way to it, which needs no room
-        pub over-laid : spot k kb (recs (c .size) t) ≡ At i → laid (set (recs (c .size) t) i (c .spell r)) t ≡ laidOver c (store key order r (tableIn c t)) t
-        over-laid p = ap (λ (rs : List (List ℕ)). laid rs t) (sym (put-at k (c .spell r) (recs (c .size) t) i (own-spot ∙ p))) ∙ put-laid
+        pub over-laid : spot k kb (recs s t) ≡ At i → laid (set (recs s t) i (c .spell r)) t ≡ laidOver c (store key order r (tableIn c t)) t
+        over-laid p = ap (λ (rs : List (List ℕ)). laid rs t) (sym (put-at k (c .spell r) (recs s t) i (own-spot ∙ p))) ∙ put-laid
 
-        pub over-fits : spot k kb (recs (c .size) t) ≡ At i → fits (store key order r (tableIn c t)) ≡ true
-        over-fits p = sym put-fits ∙ sym (room-at (c .size) k t (c .spell r) i (spot k (c .spell r) (recs (c .size) t)) refl (own-spot ∙ p) (formed-well L t e))
+        pub over-fits : spot k kb (recs s t) ≡ At i → fits (store key order r (tableIn c t)) ≡ true
+        over-fits p = sym put-fits ∙ sym (room-at s k t (c .spell r) i (spot k (c .spell r) (recs s t)) refl (own-spot ∙ p) (formed-well L t e))
 
         -- or it goes in before that one, which needs room for one more
-        pub insert-laid : spot k kb (recs (c .size) t) ≡ Gap i → laid (inserted i (c .spell r) (recs (c .size) t)) t ≡ laidOver c (store key order r (tableIn c t)) t
-        insert-laid p = ap (λ (rs : List (List ℕ)). laid rs t) (sym (put-gap k (c .spell r) (recs (c .size) t) i (own-spot ∙ p))) ∙ put-laid
+        pub insert-laid : spot k kb (recs s t) ≡ Gap i → laid (inserted i (c .spell r) (recs s t)) t ≡ laidOver c (store key order r (tableIn c t)) t
+        insert-laid p = ap (λ (rs : List (List ℕ)). laid rs t) (sym (put-gap k (c .spell r) (recs s t) i (own-spot ∙ p))) ∙ put-laid
 
-        pub insert-fits : spot k kb (recs (c .size) t) ≡ Gap i → holds (c .size) (countOf t + 1) t ≡ fits (store key order r (tableIn c t))
-        insert-fits p = room-gap (c .size) k t (c .spell r) i (spot k (c .spell r) (recs (c .size) t)) refl (own-spot ∙ p) (holds (c .size) (countOf t + 1) t) refl ∙ put-fits
+        pub insert-fits : spot k kb (recs s t) ≡ Gap i → holds s (countOf t + 1) t ≡ fits (store key order r (tableIn c t))
+        insert-fits p = room-gap s k t (c .spell r) i (spot k (c .spell r) (recs s t)) refl (own-spot ∙ p) (holds s (countOf t + 1) t) refl ∙ put-fits
 
     -- ---- many records stored
 
     module _ (rs : List R) (f : all form rs ≡ true) where
-      putAll-rows : Many.putAll k (map (c .spell) rs) (recs (c .size) t) ≡ map (c .spell) (putAll key order rs (tableIn c t .rows))
+      putAll-rows : Many.putAll k (map (c .spell) rs) (recs s t) ≡ map (c .spell) (putAll key order rs (tableIn c t .rows))
       putAll-rows =
           ap (Many.putAll k (map (c .spell) rs)) (rows-are L t e)
           ∙ putAll-spelled rs f (tableIn c t .rows) (Rules.formed-rows key order (L .lawful) form (tableIn c t) (formed-rules L t e))
 
-      pub putAll-laid : laid (Many.putAll k (map (c .spell) rs) (recs (c .size) t)) t ≡ laidOver c (storeAll key order rs (tableIn c t)) t
+      pub putAll-laid : laid (Many.putAll k (map (c .spell) rs) (recs s t)) t ≡ laidOver c (storeAll key order rs (tableIn c t)) t
       unfolding laidOver
       putAll-laid = ap (λ (bs : List (List ℕ)). laid bs t) putAll-rows
 
-      pub putAll-fits : B.fits (c .size) (Many.putAll k (map (c .spell) rs) (recs (c .size) t)) t ≡ fits (storeAll key order rs (tableIn c t))
-      putAll-fits = ap (λ (bs : List (List ℕ)). B.fits (c .size) bs t) putAll-rows ∙ fits-is c (putAll key order rs (tableIn c t .rows)) t
+      pub putAll-fits : B.fits s (Many.putAll k (map (c .spell) rs) (recs s t)) t ≡ fits (storeAll key order rs (tableIn c t))
+      putAll-fits = ap (λ (bs : List (List ℕ)). B.fits s bs t) putAll-rows ∙ fits-is L (putAll key order rs (tableIn c t .rows)) t
 
       -- room for the distinct new keys, counted in bytes
-      pub news-room : holds (c .size) (countOf t + Many.news k (map (c .spell) rs) (recs (c .size) t)) t ≡ hasRoom key order (tableIn c t) rs
+      pub news-room : holds s (countOf t + Many.news k (map (c .spell) rs) (recs s t)) t ≡ hasRoom key order (tableIn c t) rs
       news-room =
-          room-news (c .size) k (map (c .spell) rs) t (formed-well L t e) ∙ putAll-fits
+          room-news s k (map (c .spell) rs) t (formed-well L t e) ∙ putAll-fits
           ∙ fits-storeAll key order (L .lawful) rs (tableIn c t) (formed-up L t e)
 
       pub storeAll-holds : fits (storeAll key order rs (tableIn c t)) ≡ true → Laid L (storeAll key order rs (tableIn c t)) t (laidOver c (storeAll key order rs (tableIn c t)) t)
       storeAll-holds h =
-          laid-holds L (storeAll key order rs (tableIn c t)) t (Rules.formed-storeAll key order (L .lawful) form rs (tableIn c t) f (formed-rules L t e) h) refl (well-two (c .size) k t (formed-well L t e))
+          laid-holds L (storeAll key order rs (tableIn c t)) t (Rules.formed-storeAll key order (L .lawful) form rs (tableIn c t) f (formed-rules L t e) h) refl (formed-two L t e)

@@ -148,27 +148,27 @@ present-size = refl
 
 -- ---- the layouts
 
-pub volumes : Layout volumeBytes 17 volumeForm volumeKey bytes
-volumes = front-layout volume-front id-order bytes-lawful (omega (arith, volume-size)) (omega (arith, volume-size)) volume-held
+pub volumes : Layout volumeBytes 117 17 volumeForm volumeKey bytes
+volumes = front-layout volume-front id-order bytes-lawful 117 volume-size (omega arith) (omega arith) volume-held
 
-pub tags : Layout tagBytes 34 tagForm tagKey bytes
-tags = front-layout tag-front name-order bytes-lawful (omega (arith, tag-size)) (omega (arith, tag-size)) tag-held
+pub tags : Layout tagBytes 50 34 tagForm tagKey bytes
+tags = front-layout tag-front name-order bytes-lawful 50 tag-size (omega arith) (omega arith) tag-held
 
-pub commits : Layout commitBytes 25 commitForm commitKey logLsn
+pub commits : Layout commitBytes 722 25 commitForm commitKey logLsn
 unfolding logLsnBytes
-commits = front-layout commit-front log-lsn-order logLsn-lawful (omega (arith, commit-size)) (omega (arith, commit-size)) commit-held
+commits = front-layout commit-front log-lsn-order logLsn-lawful 722 commit-size (omega arith) (omega arith) commit-held
 
-pub checkpoints : Layout checkpointBytes 25 checkpointForm checkpointKey logLsn
+pub checkpoints : Layout checkpointBytes 25 25 checkpointForm checkpointKey logLsn
 unfolding logLsnBytes
-checkpoints = front-layout checkpoint-front log-lsn-order logLsn-lawful (omega (arith, checkpoint-size)) (omega (arith, checkpoint-size)) checkpoint-held
+checkpoints = front-layout checkpoint-front log-lsn-order logLsn-lawful 25 checkpoint-size (omega arith) (omega arith) checkpoint-held
 
-pub index : Layout entryBytes 29 entryForm entryKey logPageLsn
+pub index : Layout entryBytes 29 29 entryForm entryKey logPageLsn
 unfolding logPageLsnBytes
-index = front-layout entry-front log-page-lsn-order logPageLsn-lawful (omega (arith, entry-size)) (omega (arith, entry-size)) entry-held
+index = front-layout entry-front log-page-lsn-order logPageLsn-lawful 29 entry-size (omega arith) (omega arith) entry-held
 
-pub presence : Layout presentBytes 21 presentForm presentKey sidPage
+pub presence : Layout presentBytes 21 21 presentForm presentKey sidPage
 unfolding sidPageBytes
-presence = front-layout present-front sid-page-order sidPage-lawful (omega (arith, present-size)) (omega (arith, present-size)) present-held
+presence = front-layout present-front sid-page-order sidPage-lawful 21 present-size (omega arith) (omega arith) present-held
 
 -- ---- bytes that begin with a key's bytes name it
 
