@@ -19,7 +19,7 @@ use Rattle.layout.specs.Records.{volumeOf, volumeParts, tagOf, tagParts, checkp
 use Rattle.layout.proofs.FormHolds.{bytes-held, lsn-bound, page-bound, volume-held, tag-held, commit-held, checkpoint-held, entry-held, present-held}
 use Rattle.rows.proofs.Rows.{Layout}
 use Rattle.rows.proofs.Finds.{Names}
-use Rattle.rows.proofs.KeyOrders.{KeyOrder, Fronted, raw-order, number-order, complement-order, padded-order, reserved-order, pair-order, pair-front, whole-front, front-names, front-layout}
+use Rattle.rows.proofs.KeyOrders.{KeyOrder, Fronted, raw-order, number-order, complement-order, padded-order, reserved-order, pair-order, pair-front, whole-front, front-names, own-names, front-layout}
 
 -- ---- the keys
 
@@ -194,3 +194,27 @@ module _ (kb : List ℕ) where
   pub present-names : (x : SidPage) → OkSidPage x → part 0 21 kb ≡ sidPageBytes .spell x → Names presence kb x
   unfolding sidPageBytes
   present-names x h e = front-names present-front sid-page-order kb x h e
+
+-- and a key's bytes alone
+
+pub volume-key : (vid : Id) → OkId vid → Names volumes (0 ∷ vid) vid
+volume-key vid h = own-names volume-front id-order vid h
+
+pub tag-key : (name : Name) → OkName name → Names tags (reserved (padded 32) .spell name) name
+tag-key name h = own-names tag-front name-order name h
+
+pub commit-key : (x : LogLsn) → OkLogLsn x → Names commits (logLsnBytes .spell x) x
+unfolding logLsnBytes
+commit-key x h = own-names commit-front log-lsn-order x h
+
+pub checkpoint-key : (x : LogLsn) → OkLogLsn x → Names checkpoints (logLsnBytes .spell x) x
+unfolding logLsnBytes
+checkpoint-key x h = own-names checkpoint-front log-lsn-order x h
+
+pub entry-key : (x : LogPageLsn) → OkLogPageLsn x → Names index (logPageLsnBytes .spell x) x
+unfolding logPageLsnBytes
+entry-key x h = own-names entry-front log-page-lsn-order x h
+
+pub present-key : (x : SidPage) → OkSidPage x → Names presence (sidPageBytes .spell x) x
+unfolding sidPageBytes
+present-key x h = own-names present-front sid-page-order x h
