@@ -170,7 +170,8 @@ module _ {R K : Type 0} {c : Codec R} {s k : ℕ} {form : R → Bool} {key : R �
         ∙ from-step (cmp k kb (c .spell r)) (spot k kb (map (c .spell) l)) r l (from key order x l) (from-look l (and-snd (form r) (all form l) e))
 
     module _ (t : List ℕ) (e : formedIn c k form t ≡ true) where
-      get-rows : get key order x (tableIn c t .rows) ≡ Option·map (c .read) (look k kb (recs s t))
+      -- the record of a key as bytes have it
+      pub get-rows : get key order x (tableIn c t .rows) ≡ Option·map (c .read) (look k kb (recs s t))
       get-rows = get-look (tableIn c t .rows) (formed-forms L t e) ∙ ap (λ (rs : List (List ℕ)). Option·map (c .read) (look k kb rs)) (sym (rows-are L t e))
 
       -- the record of a key is the one at the spot of its bytes
