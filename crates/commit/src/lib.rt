@@ -1,8 +1,4 @@
-// Commits and segments by value, with builders that change one field and keep all others.
-// `frames` answers for a segment's frames, `ranges` joins runs of a segment's bytes.
-pub mod frames;
-pub mod ranges;
-
+// Commits and segments by value, with builders that change one field and keep all others; and runs of a segment's bytes.
 use core::commit_hash;
 use core::commit_hash::CommitHash;
 use core::id::LogId;
