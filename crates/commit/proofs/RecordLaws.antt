@@ -1,5 +1,5 @@
 -- What the types of the records tell, and that the promise of a range determines the answer. Assumes nothing.
-use mathlib.Core.Path.{_≡_, sym, ap, _∙_}
+use mathlib.Core.Path.{_≡_, refl, sym, ap, _∙_}
 use mathlib.Core.Option.{Option, none, some}
 use mathlib.Core.List.{List}
 use mir.Val.{Val}
@@ -13,12 +13,16 @@ use Rattle.rules.specs.Frames.{Part}
 use Rattle.commit.specs.declared.SegmentIdx.{SegmentIdx}
 use Rattle.commit.specs.declared.SegmentRange.{SegmentRange}
 use Rattle.commit.specs.declared.RangeAnswer.{RangeAnswer}
-use Rattle.commit.specs.Says.{IsRange, Tells}
+use Rattle.commit.specs.Says.{foundRange, IsRange, Tells}
 use Rattle.commit.proofs.SegmentIdx.{the-type}
 
 -- a segment has sixteen places for frames
 pub long-of : (s : SegmentIdx) (vs : List Val) → Is (row the-type) s vs → length (s .frames) ≡ 16
 long-of s vs g = sym (length-map (s .frames) _) ∙ g .1 .1 .1 .1 .1 .0 .1 .0 .1
+
+-- a range that is found
+pub tells-found : (f : Part) (x : SegmentRange) (r : RangeAnswer) → IsRange f x → r ≡ foundRange x → Tells r (done (some f))
+tells-found f x r h e = rw e (refl, refl, h)
 
 -- ---- the promise determines the answer
 

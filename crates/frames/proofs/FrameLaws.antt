@@ -29,7 +29,7 @@ use Rattle.frames.specs.Rules.{noFrames, spelled, framesOk}
 -- ---- the frames that a walk bit left
 
 module _ (s : SegmentIdx) (t : s .len ≤ length (s .frames)) (i : ℕ) where
-  long : length (listed s) ≡ s .len
+  pub long : length (listed s) ≡ s .len
   long = length-map (take (s .len) (s .frames)) frameSays ∙ length-take-le (s .len) (s .frames) t
 
   -- the next frame, and the rest

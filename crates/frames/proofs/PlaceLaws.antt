@@ -10,7 +10,7 @@ use native.Mathlib.Omega.{arith}
 use borrow.Author.Tests.{leb-true, leb-false, le-leb, lt-leb, lt-ltb}
 use lib.Dec.{leb}
 use lib.ListN.{length, drop, getD}
-use Rattle.core.specs.Answers.{refused, done}
+use Rattle.core.specs.Answers.{Answer, refused, done, ask, _>>_}
 use Rattle.core.specs.Numbers.{lastLsn}
 use Rattle.pageset.specs.declared.Window.{Window}
 use Rattle.pageset.specs.declared.PageSet.{PageSet}
@@ -130,6 +130,20 @@ module _ (s : SegmentIdx) (e : framesOk s ≡ true) where
   unfolding framesOk listsForm framesForm
   ok-sum = let h : leb (total (listed s)) lastLsn ≡ true = search (and-fst, and-snd) in leb-true (total (listed s)) lastLsn h
 
+-- ---- the tests of a segment, as every rule asks them
+
+module _ {A : Type 0} (s : SegmentIdx) (q : Answer A) where
+  abbrev formed : Answer A
+  formed = ask (spelled s) 3 >> (ask (listsForm (segmentSays s)) 3 >> q)
+
+  pub formed-bad : framesOk s ≡ false → refused 3 ≡ formed
+  unfolding framesOk
+  formed-bad e = cases (spelled s) (λ k. let l : listsForm (segmentSays s) ≡ false = rw k at e in rw (k, l)) (λ k. rw k)
+
+  pub formed-ok : framesOk s ≡ true → q ≡ formed
+  unfolding framesOk
+  formed-ok e = rw (and-fst (spelled s) (listsForm (segmentSays s)) e, and-snd (spelled s) (listsForm (segmentSays s)) e)
+
 -- ---- the rule, at each of the code's answers
 
 module _ (s : SegmentIdx) (p : ℕ) (r : RangeAnswer) where
@@ -141,16 +155,15 @@ module _ (s : SegmentIdx) (p : ℕ) (r : RangeAnswer) where
   tells-zero e h = rw (← rule-zero e) h
 
   rule-bad : 0 < p → framesOk s ≡ false → refused 3 ≡ frameRule s p
-  unfolding frameRule frameOf framesOk
-  rule-bad l e =
-      rw (lt-ltb 0 p l) (cases (spelled s) (λ q. let k : listsForm (segmentSays s) ≡ false = rw q at e in rw (q, k)) (λ q. rw q))
+  unfolding frameRule frameOf
+  rule-bad l e = rw (lt-ltb 0 p l) (formed-bad s (done (partOf (segmentSays s) p)) e)
 
   pub tells-bad : 0 < p → framesOk s ≡ false → r ≡ noRange 3 → Tells r (frameRule s p)
   tells-bad l e h = rw (← rule-bad l e) h
 
   rule-place : 0 < p → framesOk s ≡ true → done (partOf (segmentSays s) p) ≡ frameRule s p
-  unfolding frameRule frameOf framesOk
-  rule-place l e = rw (lt-ltb 0 p l, and-fst (spelled s) (listsForm (segmentSays s)) e, and-snd (spelled s) (listsForm (segmentSays s)) e)
+  unfolding frameRule frameOf
+  rule-place l e = rw (lt-ltb 0 p l) (formed-ok s (done (partOf (segmentSays s) p)) e)
 
   pub tells-place : (o : Option Part) → 0 < p → framesOk s ≡ true → o ≡ partOf (segmentSays s) p → Tells r (done o) → Tells r (frameRule s p)
   tells-place o l e q h = rw (← rule-place l e, ← q) h
@@ -163,10 +176,9 @@ module _ (s : SegmentIdx) (p lent : ℕ) where
   bytes-zero e = rw e
 
   pub bytes-bad : 0 < p → framesOk s ≡ false → refused 3 ≡ partBytes (bytesRule s p lent)
-  unfolding bytesRule frameBytes framesOk
-  bytes-bad l e =
-      rw (lt-ltb 0 p l) (cases (spelled s) (λ q. let k : listsForm (segmentSays s) ≡ false = rw q at e in rw (q, k)) (λ q. rw q))
+  unfolding bytesRule frameBytes
+  bytes-bad l e = rw (lt-ltb 0 p l) (ap partBytes (formed-bad s (withinLent lent (partOf (segmentSays s) p)) e))
 
   pub bytes-place : (o : Option Part) → 0 < p → framesOk s ≡ true → o ≡ partOf (segmentSays s) p → partBytes (withinLent lent o) ≡ partBytes (bytesRule s p lent)
-  unfolding bytesRule frameBytes framesOk
-  bytes-place o l e q = rw (lt-ltb 0 p l, and-fst (spelled s) (listsForm (segmentSays s)) e, and-snd (spelled s) (listsForm (segmentSays s)) e, q)
+  unfolding bytesRule frameBytes
+  bytes-place o l e q = rw (lt-ltb 0 p l, q) (ap partBytes (formed-ok s (withinLent lent (partOf (segmentSays s) p)) e))

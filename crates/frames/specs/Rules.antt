@@ -9,7 +9,7 @@ use Rattle.pageset.specs.Sets.{normal}
 use Rattle.core.specs.Answers.{Answer, refused, done, ask, _>>=_, _>>_}
 use Rattle.core.specs.Numbers.{counts}
 use Rattle.rules.specs.Forms.{listsForm}
-use Rattle.rules.specs.Frames.{Part, frameOf, frameBytes}
+use Rattle.rules.specs.Frames.{Part, frameList, frameOf, frameBytes}
 use Rattle.commit.specs.declared.Frame.{Frame}
 use Rattle.commit.specs.declared.SegmentIdx.{SegmentIdx}
 use Rattle.commit.specs.Says.{segmentSays}
@@ -26,6 +26,12 @@ spelled s = normal (s .pages) && leb (s .len) 16 && noFrames (drop (s .len) (s .
 -- and the frames are in document 01's domain
 unfoldable pub framesOk : SegmentIdx → Bool
 framesOk s = spelled s && listsForm (segmentSays s)
+
+-- a segment's frames
+unfoldable pub listRule : SegmentIdx → Answer (List Part)
+listRule s = do
+  ask (spelled s) 3
+  frameList (segmentSays s)
 
 -- the frame of a page
 unfoldable pub frameRule : SegmentIdx → ℕ → Answer (Option Part)

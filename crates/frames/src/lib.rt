@@ -1,8 +1,8 @@
-// A segment's frames: whether they are in their domain, and the frame of a page.
-use commit::Presence;
+// A segment's frames: whether they are in their domain, all of them, the frame of a page, and its bytes.
 use commit::RangeAnswer;
 use commit::SegmentIdx;
 use commit::SegmentRange;
+use commit::found_range;
 use commit::no_range;
 use core::page_count::MaybePage;
 use core::pageidx::PageIdx;
@@ -15,12 +15,12 @@ ghost use Prim.Native.Nat.{_+_, _≤_, _<_};
 ghost use mathlib.Core.Option.{some};
 ghost use lib.ListN.{length, drop};
 ghost use Rattle.pageset.specs.Sets.{shown, normal};
-ghost use Rattle.core.specs.Answers.{done};
-ghost use Rattle.rules.specs.Frames.{partOf, withinLent};
+ghost use Rattle.rules.specs.Frames.{partOf, partsOf, withinLent};
 ghost use Rattle.rules.specs.Forms.{startPage, framesForm};
-ghost use Rattle.commit.specs.Says.{listed, segmentSays, Tells};
+ghost use Rattle.commit.specs.Says.{listed, segmentSays, IsRange, Tells};
 ghost use Rattle.frames.specs.Places.{runPart, placeSays, Placed, bytesSays, Within};
-ghost use Rattle.frames.specs.Rules.{noFrames, framesOk, frameRule, bytesRule, partBytes, cutBytes};
+ghost use Rattle.frames.specs.Parts.{Filled, Lists};
+ghost use Rattle.frames.specs.Rules.{noFrames, framesOk, listRule, frameRule, bytesRule, partBytes, cutBytes};
 
 // Where a frame lies: from start up to but not at end, and from its first page to its last.
 pub struct Run {
@@ -41,6 +41,13 @@ pub enum BytesAnswer {
     Refused(u32),
     At(usize, usize),
     Nothing,
+}
+
+// The frames of a segment: the first `len` count, and those past them are zero. Of a refusal its number, and no frame.
+pub struct FrameList {
+    pub code: u32,
+    pub len: usize,
+    pub frames: [SegmentRange; 16],
 }
 
 // The number before the page at which frame 1 starts: the set's first page, or page 1 where it has none.
@@ -156,26 +163,21 @@ fn locate(s: SegmentIdx, page: PageIdx) -> Place
 }
 
 // The frame that lies there: its bytes, and the pages of the segment's set from its first page to its last.
-fn frame_at(s: SegmentIdx, run: Run) -> RangeAnswer
+fn frame_at(s: SegmentIdx, run: Run) -> SegmentRange
     requires { ⌜ normal (s .pages) ≡ true ⌝ }
     requires { ⌜ 0 < run .first .0 ⌝ }
-    ensures { λ r. ⌜ Tells r (done (some (runPart s run))) ⌝ }
+    ensures { λ r. ⌜ IsRange (runPart s run) r ⌝ }
 {
     let sid = s.sid;
     let from = s.pages;
     let first = run.first;
     let last = run.last;
     let pages = sets::span(from, first, last);
-    let range = SegmentRange {
+    SegmentRange {
         sid,
         start: run.start,
         end: run.end,
         pages,
-    };
-    RangeAnswer {
-        code: 0,
-        found: Presence::Given,
-        range,
     }
 }
 
@@ -191,8 +193,59 @@ pub fn frame_for(s: SegmentIdx, page: PageIdx) -> RangeAnswer
     }
     let place = locate(s, page);
     match place {
-        Place::At(run) => frame_at(s, run),
+        Place::At(run) => found_range(frame_at(s, run)),
         Place::Nothing => no_range(0),
+    }
+}
+
+// Sixteen places for frames: those of a segment in form, and zeros past them. One walk that adds the sizes and carries the page before the next frame.
+fn all_frames(s: SegmentIdx) -> [SegmentRange; 16]
+    requires { ⌜ framesOk s ≡ true ⌝ }
+    ensures { λ r. ⌜ Filled (partsOf (segmentSays s)) r ⌝ }
+{
+    let n = s.len;
+    let fs = s.frames;
+    let none = SegmentRange::zero();
+    let mut frames = [none; 16];
+    let mut below = before_first(s.pages);
+    let mut start: u64 = 0;
+    let mut i: usize = 0;
+    while i < n {
+        let f = fs[i];
+        let end = start + f.size;
+        let first = PageIdx(below + 1);
+        let last = f.last;
+        let run = Run {
+            start,
+            end,
+            first,
+            last,
+        };
+        frames[i] = frame_at(s, run);
+        below = f.last.0;
+        start = end;
+        i += 1;
+    }
+    frames
+}
+
+// The frames of a segment in their order, also those that hold no page or no byte: 3 for a segment that is not in form.
+pub fn frame_list(s: SegmentIdx) -> FrameList
+    ensures { λ r. ⌜ Lists r (listRule s) ⌝ }
+{
+    if !frames_ok(s) {
+        let none = SegmentRange::zero();
+        return FrameList {
+            code: 3,
+            len: 0,
+            frames: [none; 16],
+        };
+    }
+    let frames = all_frames(s);
+    FrameList {
+        code: 0,
+        len: s.len,
+        frames,
     }
 }
 

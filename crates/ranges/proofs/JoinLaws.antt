@@ -35,12 +35,12 @@ use Rattle.rules.specs.Tables.{sameId}
 use Rattle.rules.specs.Frames.{Part, touching, joinedPart, join}
 use Rattle.rules.proofs.TableLaws.{eq-of}
 use Rattle.pageset.proofs.FormLaws.{and-both, and-left, and-right}
-use Rattle.commit.specs.declared.Presence.the-variants.{Given}
 use Rattle.commit.specs.declared.SegmentRange.{SegmentRange}
 use Rattle.commit.specs.declared.RangeAnswer.{RangeAnswer}
-use Rattle.commit.specs.Says.{rangeSays, noRange, Tells}
+use Rattle.commit.specs.Says.{rangeSays, noRange, foundRange, Tells}
 use Rattle.ranges.specs.Rules.{bothOf, joinRule}
 use Rattle.commit.proofs.SetLaws.{form-of, one-list}
+use Rattle.commit.proofs.RecordLaws.{tells-found}
 
 -- ---- the windows of a union are in order
 
@@ -116,17 +116,14 @@ module _ (a b : SegmentRange) (ea : normal (a .pages) ≡ true) (eb : normal (b 
   joined-over (inr h) n r e = rw (lt-leb (length (union (shown (a .pages)) (shown (b .pages)))) 32 (union-many (a .pages) (b .pages) ea eb (h .1))) e
 
   pub joined-set : GivesOr22 u (done (λ p. member (a .pages) p || member (b .pages) p)) → u .code ≡ 0
-      → Tells (record { code = 0; found = Given; range = record { sid = a .sid; start = a .start; end = b .end; pages = u .set } }) (joinedPart (some (bothOf a b)))
-  joined-set (inl h) e =
-      rw (le-leb (length (union (shown (a .pages)) (shown (b .pages)))) 32 (union-few (a .pages) (b .pages) ea eb (u .set) (h .1))) (
-        refl,
-        refl,
-        record {
-          says = ap (λ (ws : Pages). record { sid = a .sid; start = a .start; end = b .end; pages = ws }) (union-is (a .pages) (b .pages) ea eb (u .set) (h .1));
-          normal = h .1 .normal;
-        },
-      )
-  joined-set (inr h) e = absurd (let z : u .code ≡ 22 = ap (λ (x : SetAnswer). x .code) (h .0) in omega arith)
+      → (r : RangeAnswer) → r ≡ foundRange (record { sid = a .sid; start = a .start; end = b .end; pages = u .set }) → Tells r (joinedPart (some (bothOf a b)))
+  joined-set (inl h) e r g =
+      rw (le-leb (length (union (shown (a .pages)) (shown (b .pages)))) 32 (union-few (a .pages) (b .pages) ea eb (u .set) (h .1)))
+      (tells-found _ _ r (record {
+        says = ap (λ (ws : Pages). record { sid = a .sid; start = a .start; end = b .end; pages = ws }) (union-is (a .pages) (b .pages) ea eb (u .set) (h .1));
+        normal = h .1 .normal;
+      }) g)
+  joined-set (inr h) e r g = absurd (let z : u .code ≡ 22 = ap (λ (x : SetAnswer). x .code) (h .0) in omega arith)
 
 -- ---- the rule, at each of the code's answers
 

@@ -1,7 +1,7 @@
 // Runs of a segment's bytes: their size, and joining two that touch.
-use commit::Presence;
 use commit::RangeAnswer;
 use commit::SegmentRange;
+use commit::found_range;
 use commit::no_range;
 use core::id;
 use pageset::form;
@@ -43,11 +43,7 @@ fn joined(left: SegmentRange, right: SegmentRange) -> RangeAnswer
         end: right.end,
         pages,
     };
-    RangeAnswer {
-        code: 0,
-        found: Presence::Given,
-        range,
-    }
+    found_range(range)
 }
 
 // Two ranges joined: 2 for one that ends before it starts, 3 for a set that is not in form, none where they are of other segments or do not touch, then 22.

@@ -3,6 +3,7 @@ use borrow.Author.Needs.{needs}
 use borrow.Author.Tests.{not-true, not-false}
 use mathlib.Core.Path.{sym, ap, _∙_}
 use native.Mathlib.Omega.{arith}
+use Rattle.commit.proofs.RecordLaws.{tells-found}
 use Rattle.frames.specs.Places.{placeSays}
 use Rattle.frames.proofs.PlaceLaws.{tells-zero, tells-bad, tells-place, ok-normal}
 use Rattle.frames.proofs.frame_for.Statement.{statement}
@@ -34,6 +35,9 @@ frame-at-requires c κs =
     let h = rw (c .before .place .given .1) at (c .before .before .before .locate .ensures .1) in
     (ok-normal (c .before .before .before .before .before .before .before .before .args .s) (sym (c .before .before .before .before .before .frames-ok .ensures) ∙ not-false _ (c .before .before .before .before .if2 .left)), h .1)
 
+found-range-requires : tie.Need-found-range-requires
+found-range-requires c κs = search needs
+
 enum-told : tie.Need-enum-told
 enum-told c = search needs
 
@@ -42,8 +46,8 @@ no-range-requires-3 c κs = search needs
 
 returns-3 : tie.Need-returns-3
 returns-3 c =
-    tells-place (c .before .before .before .before .before .before .before .before .before .args .s) (c .before .before .before .before .before .before .before .before .before .args .page .0) _ _ (omega arith) (sym (c .before .before .before .before .before .before .frames-ok .ensures) ∙ not-false _ (c .before .before .before .before .before .if2 .left))
-    (ap (placeSays (c .before .before .before .before .before .before .before .before .before .args .s)) (sym (c .before .before .place .given .1)) ∙ c .before .before .before .before .locate .ensures .0) (c .frame-at .ensures)
+    tells-place (c .before .before .before .before .before .before .before .before .before .before .args .s) (c .before .before .before .before .before .before .before .before .before .before .args .page .0) _ _ (omega arith) (sym (c .before .before .before .before .before .before .before .frames-ok .ensures) ∙ not-false _ (c .before .before .before .before .before .before .if2 .left))
+    (ap (placeSays (c .before .before .before .before .before .before .before .before .before .before .args .s)) (sym (c .before .before .before .place .given .1)) ∙ c .before .before .before .before .before .locate .ensures .0) (tells-found _ _ _ (c .before .frame-at .ensures) (c .found-range .ensures))
 
 returns-4 : tie.Need-returns-4
 returns-4 c =
@@ -62,6 +66,7 @@ frame-for-spec =
     locate-requires
     enum-known-place
     frame-at-requires
+    found-range-requires
     enum-told
     no-range-requires-3
     returns-3
