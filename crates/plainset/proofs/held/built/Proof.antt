@@ -1,9 +1,9 @@
--- `setrun::rounds::built` is safe and ends. Nothing has to hold from turn to turn, since the loop's test bounds the index; the measure is what is left of `draws` past `i`.
+-- `plainset::held::built` is safe and ends. Nothing has to hold from turn to turn, since the loop's test bounds the index; the measure is what is left of `draws` past `i`.
 use Prim.Native.Nat.{_-_}
 use native.Mathlib.Omega.{arith}
 use lib.ListN.{length}
-use Rattle.setrun.proofs.rounds.built.Statement.{statement}
-use Rattle.setrun.proofs.rounds.built.Tie as tie
+use Rattle.plainset.proofs.held.built.Statement.{statement}
+use Rattle.plainset.proofs.held.built.Tie as tie
 
 abbrev Inv-loop : tie.InvT-loop
 Inv-loop draws h₀ i₀ h i = Unit {0}
