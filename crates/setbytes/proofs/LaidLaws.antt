@@ -10,7 +10,7 @@ use lib.ListN.{length, take, drop, getD, replicate, length-append, length-replic
 use lib.Seq.{take-at, drop-at}
 use Rattle.pageset.specs.declared.PageSet.{PageSet}
 use Rattle.pageset.specs.Sets.{holds, rising, windowForms, normalForm, shown, zeroWindow, blank, normal}
-use Rattle.pageset.proofs.FormLaws.{and-fst, and-both, Tidy, Normal, normal-fact, blank-test, shown-length}
+use Rattle.pageset.proofs.FormLaws.{and-fst, and-snd, and-both, Tidy, Normal, normal-fact, blank-test, shown-length}
 use Rattle.pageset.proofs.WalkLaws.{tidy-known}
 use Rattle.rules.specs.Records.{Pages}
 use Rattle.setbytes.specs.Laid.{setLaid}
@@ -51,6 +51,11 @@ laid-normal ws e =
 module _ (s : PageSet) (e : normal s ≡ true) where
   tidy : Tidy s
   tidy = normal-fact s e .tidy
+
+  -- the windows that it shows are in normal form
+  pub shown-form : normalForm (shown s) ≡ true
+  unfolding normal
+  shown-form = and-snd (leb (s .len) 32 && eqb (length (s .windows)) 32 && blank (drop (s .len) (s .windows))) (normalForm (shown s)) e
 
   -- a set in normal form is that of the windows that it shows
   pub laid-says : setLaid (shown s) ≡ s

@@ -4,7 +4,6 @@ use mathlib.Core.Path.{_≡_, refl, sym, ap, ap₂, _∙_}
 use mathlib.Core.Bool.{true, _&&_}
 use mathlib.Core.List.{List, _++_}
 use native.Mathlib.Omega.{arith}
-use native.Mathlib.Nat.{add-zero}
 use lib.ListN.{length, replicate}
 use Rattle.octets.specs.Bytes.{be, bytesOf, part, put, AreBytes}
 use Rattle.octets.proofs.Numbers as N
@@ -12,14 +11,10 @@ use Rattle.octets.proofs.Places as P
 use Rattle.pageset.specs.declared.Window.{Window}
 use Rattle.pageset.specs.Sets.{zeroWindow}
 use Rattle.layout.specs.Codecs.{Codec, number, pair, spelled}
-use Rattle.layout.specs.Values.{windowBytes}
+use Rattle.layout.specs.Values.{windowBytes, windowOf, windowParts}
 use Rattle.layout.proofs.SpellLaws.{Steady, number-steady, pair-steady, viewed-steady, number-spelled, pair-spelled, viewed-spelled}
+use Rattle.layout.proofs.PlaceLaws.{pair-read}
 use Rattle.setbytes.proofs.ListLaws.{Free}
-
--- two numbers side by side, read where they stand
-pub two-numbers : (j k at : ℕ) (s : List ℕ) → pair (number j) (number k) .read (part at (j + k) s) ≡ (be (part at j s), be (part (at + j) k s))
-two-numbers j k at s =
-    ap₂ (λ (x y : List ℕ). (be x, be y)) (P.part-part at (j + k) 0 j s (omega arith) ∙ ap (λ (n : ℕ). part n j s) (add-zero at)) (P.part-part at (j + k) j k s (omega arith))
 
 -- any bytes are those of two numbers
 pub two-steady : (j k : ℕ) → Steady (pair (number j) (number k))
@@ -33,23 +28,17 @@ two-free j k b ab e =
 
 -- ---- a window
 
-abbrev seen : ℕ × ℕ → Window
-seen x = record { index = x .0; mask = x .1 }
-
-abbrev seeing : Window → ℕ × ℕ
-seeing w = (w .index, w .mask)
-
 pub window-at : (at : ℕ) (s : List ℕ) → windowBytes .read (part at 12 s) ≡ record { index = be (part at 4 s); mask = be (part (at + 4) 8 s) }
 unfolding windowBytes
-window-at at s = ap seen (two-numbers 4 8 at s)
+window-at at s = ap windowOf (pair-read s at (number 4) (number 8))
 
 pub window-steady : Steady windowBytes
 unfolding windowBytes
-window-steady = viewed-steady (pair (number 4) (number 8)) seen seeing (λ x. refl) (two-steady 4 8)
+window-steady = viewed-steady (pair (number 4) (number 8)) windowOf windowParts (λ x. refl) (two-steady 4 8)
 
 pub window-free : Free windowBytes
 unfolding windowBytes
-window-free b ab e = viewed-spelled (pair (number 4) (number 8)) seen seeing (λ x. refl) b ∙ two-free 4 8 b ab e
+window-free b ab e = viewed-spelled (pair (number 4) (number 8)) windowOf windowParts (λ x. refl) b ∙ two-free 4 8 b ab e
 
 pub window-long : (w : Window) → length (windowBytes .spell w) ≡ 12
 unfolding windowBytes
