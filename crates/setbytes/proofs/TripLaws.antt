@@ -11,9 +11,9 @@ use Rattle.octets.proofs.Places as P
 use Rattle.layout.specs.Codecs.{Codec, inForm, Holds}
 use Rattle.layout.proofs.HoldLaws.{in-form}
 
-module _ {A V : Type 0} (c : Codec A) (says : V → A) (laid : A → V) (s : List ℕ) (at : ℕ) (h : at + c .size ≤ length s) where
+module _ {A B : Type 0} (c : Codec A) (says : B → A) (laid : A → B) (s : List ℕ) (at : ℕ) (h : at + c .size ≤ length s) where
   -- read after write
-  pub read-again : (x : V) → Holds c (says x) → laid (says x) ≡ x → laid (c .read (part at (c .size) (put at (c .spell (says x)) s))) ≡ x
+  pub read-again : (x : B) → Holds c (says x) → laid (says x) ≡ x → laid (c .read (part at (c .size) (put at (c .spell (says x)) s))) ≡ x
   read-again x k e = ap (λ (b : List ℕ). laid (c .read b)) (P.part-put-same at (c .size) (c .spell (says x)) s (k .long) h) ∙ ap laid (k .back) ∙ e
 
   -- write after read
