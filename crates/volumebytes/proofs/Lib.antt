@@ -1,0 +1,4 @@
+-- The laws of a volume in bytes: `FormLaws`, what its form asks; `ReadLaws`, what its bytes are read as.
+pub mod FormLaws
+pub mod ReadLaws
+pub mod WriteLaws
