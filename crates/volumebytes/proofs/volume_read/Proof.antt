@@ -45,7 +45,10 @@ new-requires : tie.Need-new-requires
 new-requires c κs = search needs
 
 returns : tie.Need-returns
-returns c = let t = c .before .before .before .before .before .before .before .before .args in c .new .ensures ∙ volume-made (t .s .now) (t .at) _ _ _ _ _ _ (c .before .before .before .before .before .before .load-id .ensures) (c .before .before .before .before .before .load-id2 .ensures) (c .before .before .before .before .load-id3 .ensures) (c .before .before .before .sync-read .ensures) (c .before .before .pending-read .ensures) (c .before .load-hash .ensures)
+returns c =
+    let t = c .before .before .before .before .before .before .before .before .args in
+    c .new .ensures
+    ∙ volume-made (t .s .now) (t .at) _ _ _ _ _ _ (c .before .before .before .before .before .before .load-id .ensures) (c .before .before .before .before .before .load-id2 .ensures) (c .before .before .before .before .load-id3 .ensures) (c .before .before .before .sync-read .ensures) (c .before .before .pending-read .ensures) (c .before .load-hash .ensures)
 
 pub volume-read-spec : {M : Type 1} → statement M
 volume-read-spec =

@@ -54,7 +54,11 @@ same-length : tie.Need-same-length
 same-length c = search needs
 
 returns : tie.Need-returns
-returns c = let a = c .before .before .before .before .before .before .before .before .before .before .before .before .before .before .before .before .before .before .before .before .before .before .before .before .before .before .before .before .before .before .before .before .before in let v = a .args .v in let n = long a in volume-stored (a .args .at) (volumeSays v) (a .args .s .now) _ _ _ _ _ _ _ (a .pre) (n .0) (n .1) (n .2) (long-beside (v .pending) (v .«pending_hash») (n .3)) (c .before .before .before .before .before .before .before .before .before .before .before .before .before .before .before .before .before .before .before .before .before .before .before .before .before .before .store8 .ensures) (c .before .before .before .before .before .before .before .before .before .before .before .before .before .before .before .before .before .before .before .before .before .before .store-id .ensures) (c .before .before .before .before .before .before .before .before .before .before .before .before .before .before .before .before .before .before .store82 .ensures) (c .before .before .before .before .before .before .before .before .before .before .before .before .before .before .store-id2 .ensures) (c .before .before .before .before .before .before .before .before .before .before .store-id3 .ensures) (c .before .before .before .before .before .before .sync-write .ensures) (c .before .before .pending-write .ensures)
+returns c =
+    let a = c .before .before .before .before .before .before .before .before .before .before .before .before .before .before .before .before .before .before .before .before .before .before .before .before .before .before .before .before .before .before .before .before .before in
+    let v = a .args .v in
+    let n = long a in
+    volume-stored (a .args .at) (volumeSays v) (a .args .s .now) _ _ _ _ _ _ _ (a .pre) (n .0) (n .1) (n .2) (long-beside (v .pending) (v .«pending_hash») (n .3)) (c .before .before .before .before .before .before .before .before .before .before .before .before .before .before .before .before .before .before .before .before .before .before .before .before .before .before .store8 .ensures) (c .before .before .before .before .before .before .before .before .before .before .before .before .before .before .before .before .before .before .before .before .before .before .store-id .ensures) (c .before .before .before .before .before .before .before .before .before .before .before .before .before .before .before .before .before .before .store82 .ensures) (c .before .before .before .before .before .before .before .before .before .before .before .before .before .before .store-id2 .ensures) (c .before .before .before .before .before .before .before .before .before .before .store-id3 .ensures) (c .before .before .before .before .before .before .sync-write .ensures) (c .before .before .pending-write .ensures)
 
 pub volume-write-spec : {M : Type 1} → statement M
 volume-write-spec =

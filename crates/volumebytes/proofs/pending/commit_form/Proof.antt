@@ -11,7 +11,10 @@ load64-requires : tie.Need-load64-requires
 load64-requires c κs = search needs
 
 returns : tie.Need-returns
-returns c = let t = c .before .before .before .args in stops _ (lsn-zero _ _ (c .before .load64 .ensures) (c .if1 .taken)) ∙ sym (pending-asked (t .s .now) (λ j. c .before .before .shared-slice-known .given j .fits) (t .at) (c .before .before .before .pre))
+returns c =
+    let t = c .before .before .before .args in
+    stops _ (lsn-zero _ _ (c .before .load64 .ensures) (c .if1 .taken))
+    ∙ sym (pending-asked (t .s .now) (λ j. c .before .before .shared-slice-known .given j .fits) (t .at) (c .before .before .before .pre))
 
 add-load64 : tie.Need-add-load64
 add-load64 c = search needs
@@ -20,7 +23,10 @@ load64-requires-2 : tie.Need-load64-requires-2
 load64-requires-2 c κs = search needs
 
 returns-2 : tie.Need-returns-2
-returns-2 c = let t = c .before .before .before .before .args in goes-on _ _ (lsn-there _ _ (c .before .before .load64 .ensures) (c .before .if1 .left)) (ap counts (c .load642 .ensures)) ∙ sym (pending-asked (t .s .now) (λ j. c .before .before .before .shared-slice-known .given j .fits) (t .at) (c .before .before .before .before .pre))
+returns-2 c =
+    let t = c .before .before .before .before .args in
+    goes-on _ _ (lsn-there _ _ (c .before .before .load64 .ensures) (c .before .if1 .left)) (ap counts (c .load642 .ensures))
+    ∙ sym (pending-asked (t .s .now) (λ j. c .before .before .before .shared-slice-known .given j .fits) (t .at) (c .before .before .before .before .pre))
 
 pub commit-form-spec : {M : Type 1} → statement M
 commit-form-spec =

@@ -17,11 +17,15 @@ all-zero-requires c κs = search needs
 
 returns : tie.Need-returns
 unfolding pendingBytes
-returns c = let t = c .before .before .before .before .args in flag-none (t .s .now) (λ j. c .before .before .before .shared-slice-known .given j .fits) (t .at) pendingBytes pendingForm (c .before .before .before .before .pre) _ (c .before .before .load8 .ensures) _ (c .before .if1 .taken) (c .all-zero .ensures)
+returns c =
+    let t = c .before .before .before .before .args in
+    flag-none (t .s .now) (λ j. c .before .before .before .shared-slice-known .given j .fits) (t .at) pendingBytes pendingForm (c .before .before .before .before .pre) _ (c .before .before .load8 .ensures) _ (c .before .if1 .taken) (c .all-zero .ensures)
 
 returns-2 : tie.Need-returns-2
 unfolding pendingBytes
-returns-2 c = let t = c .before .before .before .before .args in flag-wrong (t .s .now) (λ j. c .before .before .before .shared-slice-known .given j .fits) (t .at) pendingBytes pendingForm (c .before .before .before .before .pre) _ (c .before .before .load8 .ensures) (c .before .if1 .left) (c .if2 .taken)
+returns-2 c =
+    let t = c .before .before .before .before .args in
+    flag-wrong (t .s .now) (λ j. c .before .before .before .shared-slice-known .given j .fits) (t .at) pendingBytes pendingForm (c .before .before .before .before .pre) _ (c .before .before .load8 .ensures) (c .before .if1 .left) (c .if2 .taken)
 
 add-commit-form : tie.Need-add-commit-form
 add-commit-form c = search needs
@@ -31,7 +35,9 @@ commit-form-requires c κs = search needs
 
 returns-3 : tie.Need-returns-3
 unfolding pendingBytes
-returns-3 c = let t = c .before .before .before .before .before .args in flag-there (t .s .now) (λ j. c .before .before .before .before .shared-slice-known .given j .fits) (t .at) pendingBytes pendingForm (c .before .before .before .before .before .pre) _ (c .before .before .before .load8 .ensures) _ (c .before .if2 .left) (c .commit-form .ensures)
+returns-3 c =
+    let t = c .before .before .before .before .before .args in
+    flag-there (t .s .now) (λ j. c .before .before .before .before .shared-slice-known .given j .fits) (t .at) pendingBytes pendingForm (c .before .before .before .before .before .pre) _ (c .before .before .before .load8 .ensures) _ (c .before .if2 .left) (c .commit-form .ensures)
 
 pub pending-form-spec : {M : Type 1} → statement M
 pending-form-spec =

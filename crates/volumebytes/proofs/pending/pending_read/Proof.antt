@@ -17,7 +17,9 @@ load8-requires c κs = search needs
 
 returns : tie.Need-returns
 unfolding pendingBytes
-returns c = let t = c .before .before .before .args in sym (ap pendingLaid (read-none (t .s .now) (t .at) pendingBytes _ (c .before .load8 .ensures) (c .if1 .taken)))
+returns c =
+    let t = c .before .before .before .args in
+    sym (ap pendingLaid (read-none (t .s .now) (t .at) pendingBytes _ (c .before .load8 .ensures) (c .if1 .taken)))
 
 add-load64 : tie.Need-add-load64
 add-load64 c = search needs
@@ -33,7 +35,10 @@ load64-requires-2 c κs = search needs
 
 returns-2 : tie.Need-returns-2
 unfolding pendingBytes
-returns-2 c = let t = c .before .before .before .before .before .args in ap₂ (λ (m n : ℕ). PendingCommit.At (lsnLaid m) (lsnLaid n)) (c .before .load64 .ensures) (c .load642 .ensures) ∙ sym (ap pendingLaid (read-some (t .s .now) (t .at) pendingBytes _ (c .before .before .before .load8 .ensures) (c .before .before .if1 .left) ∙ ap some (pending-read (t .s .now) (t .at + 1) (t .at + 9) (t .at + 17) (omega arith) (omega arith))))
+returns-2 c =
+    let t = c .before .before .before .before .before .args in
+    ap₂ (λ (m n : ℕ). PendingCommit.At (lsnLaid m) (lsnLaid n)) (c .before .load64 .ensures) (c .load642 .ensures)
+    ∙ sym (ap pendingLaid (read-some (t .s .now) (t .at) pendingBytes _ (c .before .before .before .load8 .ensures) (c .before .before .if1 .left) ∙ ap some (pending-read (t .s .now) (t .at + 1) (t .at + 9) (t .at + 17) (omega arith) (omega arith))))
 
 pub pending-read-spec : {M : Type 1} → statement M
 pending-read-spec =

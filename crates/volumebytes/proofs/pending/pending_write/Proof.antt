@@ -32,7 +32,10 @@ same-length c = search needs
 
 returns : tie.Need-returns
 unfolding pendingBytes
-returns c = let t = c .before .before .before .before .before .before .before .before .args in c .before .before .store-all .ensures ∙ ap (λ (w : PendingCommit). put (t .at) (optional pendingBytes .spell (pendingSays w (t .hash))) (t .s .now)) (sym (c .before .before .before .before .before .enum-told .given .1))
+returns c =
+    let t = c .before .before .before .before .before .before .before .before .args in
+    c .before .before .store-all .ensures
+    ∙ ap (λ (w : PendingCommit). put (t .at) (optional pendingBytes .spell (pendingSays w (t .hash))) (t .s .now)) (sym (c .before .before .before .before .before .enum-told .given .1))
 
 store8-requires : tie.Need-store8-requires
 store8-requires c κs = search needs
@@ -59,7 +62,10 @@ same-length-2 : tie.Need-same-length-2
 same-length-2 c = search needs
 
 returns-2 : tie.Need-returns-2
-returns-2 c = let t = c .before .before .before .before .before .before .before .before .before .before .before .before .before .before .before .before .before .before .before .before .args in pending-stored (t .at) (t .s .now) _ (c .before .before .before .before .before .before .before .before .before .before .before .before .before .before .store8 .ensures) _ _ _ (record { local = _; commit = _; hash = t .hash }) (c .before .before .before .before .before .before .before .before .before .before .before .before .before .before .before .before .before .before .before .before .pre) (long (c .before .before .before .before .before .before .before .before .before .before .before .before .before .before .before .before .before .before .before .before)) (c .before .before .before .before .before .before .before .before .before .before .store64 .ensures) (c .before .before .before .before .before .before .store642 .ensures) (c .before .before .store-hash .ensures) ∙ ap (λ (w : PendingCommit). put (t .at) (optional pendingBytes .spell (pendingSays w (t .hash))) (t .s .now)) (sym (c .before .before .before .before .before .before .before .before .before .before .before .before .before .before .before .before .before .pending .given .1))
+returns-2 c =
+    let t = c .before .before .before .before .before .before .before .before .before .before .before .before .before .before .before .before .before .before .before .before .args in
+    pending-stored (t .at) (t .s .now) _ (c .before .before .before .before .before .before .before .before .before .before .before .before .before .before .store8 .ensures) _ _ _ (record { local = _; commit = _; hash = t .hash }) (c .before .before .before .before .before .before .before .before .before .before .before .before .before .before .before .before .before .before .before .before .pre) (long (c .before .before .before .before .before .before .before .before .before .before .before .before .before .before .before .before .before .before .before .before)) (c .before .before .before .before .before .before .before .before .before .before .store64 .ensures) (c .before .before .before .before .before .before .store642 .ensures) (c .before .before .store-hash .ensures)
+    ∙ ap (λ (w : PendingCommit). put (t .at) (optional pendingBytes .spell (pendingSays w (t .hash))) (t .s .now)) (sym (c .before .before .before .before .before .before .before .before .before .before .before .before .before .before .before .before .before .pending .given .1))
 
 pub pending-write-spec : {M : Type 1} → statement M
 pending-write-spec =

@@ -10,7 +10,10 @@ load64-requires : tie.Need-load64-requires
 load64-requires c κs = search needs
 
 returns : tie.Need-returns
-returns c = let t = c .before .before .before .args in stops _ (lsn-zero _ _ (c .before .load64 .ensures) (c .if1 .taken)) ∙ sym (sync-asked (t .s .now) (λ j. c .before .before .shared-slice-known .given j .fits) (t .at) (c .before .before .before .pre))
+returns c =
+    let t = c .before .before .before .args in
+    stops _ (lsn-zero _ _ (c .before .load64 .ensures) (c .if1 .taken))
+    ∙ sym (sync-asked (t .s .now) (λ j. c .before .before .shared-slice-known .given j .fits) (t .at) (c .before .before .before .pre))
 
 add-watermark-form : tie.Need-add-watermark-form
 add-watermark-form c = search needs
@@ -19,7 +22,10 @@ watermark-form-requires : tie.Need-watermark-form-requires
 watermark-form-requires c κs = search needs
 
 returns-2 : tie.Need-returns-2
-returns-2 c = let t = c .before .before .before .before .args in goes-on _ _ (lsn-there _ _ (c .before .before .load64 .ensures) (c .before .if1 .left)) (c .watermark-form .ensures) ∙ sym (sync-asked (t .s .now) (λ j. c .before .before .before .shared-slice-known .given j .fits) (t .at) (c .before .before .before .before .pre))
+returns-2 c =
+    let t = c .before .before .before .before .args in
+    goes-on _ _ (lsn-there _ _ (c .before .before .load64 .ensures) (c .before .if1 .left)) (c .watermark-form .ensures)
+    ∙ sym (sync-asked (t .s .now) (λ j. c .before .before .before .shared-slice-known .given j .fits) (t .at) (c .before .before .before .before .pre))
 
 pub point-form-spec : {M : Type 1} → statement M
 point-form-spec =

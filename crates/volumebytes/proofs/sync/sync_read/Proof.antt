@@ -18,7 +18,9 @@ load8-requires c κs = search needs
 
 returns : tie.Need-returns
 unfolding syncBytes
-returns c = let t = c .before .before .before .args in sym (ap syncLaid (read-none (t .s .now) (t .at) syncBytes _ (c .before .load8 .ensures) (c .if1 .taken)))
+returns c =
+    let t = c .before .before .before .args in
+    sym (ap syncLaid (read-none (t .s .now) (t .at) syncBytes _ (c .before .load8 .ensures) (c .if1 .taken)))
 
 add-load64 : tie.Need-add-load64
 add-load64 c = search needs
@@ -34,7 +36,10 @@ watermark-read-requires c κs = search needs
 
 returns-2 : tie.Need-returns-2
 unfolding syncBytes
-returns-2 c = let t = c .before .before .before .before .before .args in ap₂ (λ (n : ℕ) (w : MaybeLsn). Sync.At (record { remote = lsnLaid n; watermark = w })) (c .before .load64 .ensures) (c .watermark-read .ensures) ∙ sym (ap syncLaid (read-some (t .s .now) (t .at) syncBytes _ (c .before .before .before .load8 .ensures) (c .before .before .if1 .left) ∙ ap some (sync-read (t .s .now) (t .at + 1) (t .at + 9) (omega arith))))
+returns-2 c =
+    let t = c .before .before .before .before .before .args in
+    ap₂ (λ (n : ℕ) (w : MaybeLsn). Sync.At (record { remote = lsnLaid n; watermark = w })) (c .before .load64 .ensures) (c .watermark-read .ensures)
+    ∙ sym (ap syncLaid (read-some (t .s .now) (t .at) syncBytes _ (c .before .before .before .load8 .ensures) (c .before .before .if1 .left) ∙ ap some (sync-read (t .s .now) (t .at + 1) (t .at + 9) (omega arith))))
 
 pub sync-read-spec : {M : Type 1} → statement M
 sync-read-spec =

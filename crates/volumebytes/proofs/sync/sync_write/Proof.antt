@@ -27,7 +27,10 @@ same-length c = search needs
 
 returns : tie.Need-returns
 unfolding syncBytes
-returns c = let t = c .before .before .before .before .before .before .before .before .args in c .before .before .store-all .ensures ∙ ap (λ (w : Sync). put (t .at) (optional syncBytes .spell (syncSays w)) (t .s .now)) (sym (c .before .before .before .before .before .enum-told .given .1))
+returns c =
+    let t = c .before .before .before .before .before .before .before .before .args in
+    c .before .before .store-all .ensures
+    ∙ ap (λ (w : Sync). put (t .at) (optional syncBytes .spell (syncSays w)) (t .s .now)) (sym (c .before .before .before .before .before .enum-told .given .1))
 
 store8-requires : tie.Need-store8-requires
 store8-requires c κs = search needs
@@ -48,7 +51,10 @@ same-length-2 : tie.Need-same-length-2
 same-length-2 c = search needs
 
 returns-2 : tie.Need-returns-2
-returns-2 c = let t = c .before .before .before .before .before .before .before .before .before .before .before .before .before .before .before .before .before .args in sync-stored (t .at) (t .s .now) _ (c .before .before .before .before .before .before .before .before .before .before .store8 .ensures) _ _ _ (c .before .before .before .before .before .before .before .before .before .before .before .before .before .before .before .before .before .pre) (c .before .before .before .before .before .before .store64 .ensures) (c .before .before .watermark-write .ensures) ∙ ap (λ (w : Sync). put (t .at) (optional syncBytes .spell (syncSays w)) (t .s .now)) (sym (c .before .before .before .before .before .before .before .before .before .before .before .before .before .before .sync .given .1))
+returns-2 c =
+    let t = c .before .before .before .before .before .before .before .before .before .before .before .before .before .before .before .before .before .args in
+    sync-stored (t .at) (t .s .now) _ (c .before .before .before .before .before .before .before .before .before .before .store8 .ensures) _ _ _ (c .before .before .before .before .before .before .before .before .before .before .before .before .before .before .before .before .before .pre) (c .before .before .before .before .before .before .store64 .ensures) (c .before .before .watermark-write .ensures)
+    ∙ ap (λ (w : Sync). put (t .at) (optional syncBytes .spell (syncSays w)) (t .s .now)) (sym (c .before .before .before .before .before .before .before .before .before .before .before .before .before .before .sync .given .1))
 
 pub sync-write-spec : {M : Type 1} → statement M
 sync-write-spec =

@@ -28,11 +28,15 @@ all-zero-requires c κs = search needs
 
 -- src/sync.rt:28:9
 returns : tie.Need-returns
-returns c = let t = c .before .before .before .before in flag-none (t .args .s .now) (λ j. c .before .before .before .shared-slice-known .given j .fits) (t .args .at) (number 8) lsnForm (t .pre) _ (c .before .before .load8 .ensures) _ (c .before .if1 .taken) (c .all-zero .ensures)
+returns c =
+    let t = c .before .before .before .before in
+    flag-none (t .args .s .now) (λ j. c .before .before .before .shared-slice-known .given j .fits) (t .args .at) (number 8) lsnForm (t .pre) _ (c .before .before .load8 .ensures) _ (c .before .if1 .taken) (c .all-zero .ensures)
 
 -- src/sync.rt:31:9
 returns-2 : tie.Need-returns-2
-returns-2 c = let t = c .before .before .before .before in flag-wrong (t .args .s .now) (λ j. c .before .before .before .shared-slice-known .given j .fits) (t .args .at) (number 8) lsnForm (t .pre) _ (c .before .before .load8 .ensures) (c .before .if1 .left) (c .if2 .taken)
+returns-2 c =
+    let t = c .before .before .before .before in
+    flag-wrong (t .args .s .now) (λ j. c .before .before .before .shared-slice-known .given j .fits) (t .args .at) (number 8) lsnForm (t .pre) _ (c .before .before .load8 .ensures) (c .before .if1 .left) (c .if2 .taken)
 
 -- src/sync.rt:33:19
 add-load64 : tie.Need-add-load64
@@ -44,7 +48,9 @@ load64-requires c κs = search needs
 
 -- src/sync.rt:22:1
 returns-3 : tie.Need-returns-3
-returns-3 c = let t = c .before .before .before .before .before in flag-there (t .args .s .now) (λ j. c .before .before .before .before .shared-slice-known .given j .fits) (t .args .at) (number 8) lsnForm (t .pre) _ (c .before .before .before .load8 .ensures) _ (c .before .if2 .left) (ap counts (c .load64 .ensures) ∙ sym (lsn-at (t .args .s .now) (λ j. c .before .before .before .before .shared-slice-known .given j .fits) (t .args .at + 1) (omega arith)))
+returns-3 c =
+    let t = c .before .before .before .before .before in
+    flag-there (t .args .s .now) (λ j. c .before .before .before .before .shared-slice-known .given j .fits) (t .args .at) (number 8) lsnForm (t .pre) _ (c .before .before .before .load8 .ensures) _ (c .before .if2 .left) (ap counts (c .load64 .ensures) ∙ sym (lsn-at (t .args .s .now) (λ j. c .before .before .before .before .shared-slice-known .given j .fits) (t .args .at + 1) (omega arith)))
 
 pub watermark-form-spec : {M : Type 1} → statement M
 watermark-form-spec =

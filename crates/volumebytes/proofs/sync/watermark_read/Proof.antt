@@ -13,7 +13,9 @@ load8-requires : tie.Need-load8-requires
 load8-requires c κs = search needs
 
 returns : tie.Need-returns
-returns c = let t = c .before .before .before .args in sym (ap markLaid (read-none (t .s .now) (t .at) (number 8) _ (c .before .load8 .ensures) (c .if1 .taken)))
+returns c =
+    let t = c .before .before .before .args in
+    sym (ap markLaid (read-none (t .s .now) (t .at) (number 8) _ (c .before .load8 .ensures) (c .if1 .taken)))
 
 add-load64 : tie.Need-add-load64
 add-load64 c = search needs
@@ -22,7 +24,10 @@ load64-requires : tie.Need-load64-requires
 load64-requires c κs = search needs
 
 returns-2 : tie.Need-returns-2
-returns-2 c = let t = c .before .before .before .before .args in ap (λ (n : ℕ). markLaid (some n)) (c .load64 .ensures) ∙ sym (ap markLaid (read-some (t .s .now) (t .at) (number 8) _ (c .before .before .load8 .ensures) (c .before .if1 .left)))
+returns-2 c =
+    let t = c .before .before .before .before .args in
+    ap (λ (n : ℕ). markLaid (some n)) (c .load64 .ensures)
+    ∙ sym (ap markLaid (read-some (t .s .now) (t .at) (number 8) _ (c .before .before .load8 .ensures) (c .before .if1 .left)))
 
 pub watermark-read-spec : {M : Type 1} → statement M
 watermark-read-spec =

@@ -25,7 +25,10 @@ same-length : tie.Need-same-length
 same-length c = search needs
 
 returns : tie.Need-returns
-returns c = let t = c .before .before .before .before .before .before .before .before .args in c .before .before .store-all .ensures ∙ ap (λ (w : MaybeLsn). put (t .at) (optional (number 8) .spell (maybeLsnSays w)) (t .s .now)) (sym (c .before .before .before .before .before .enum-told .given .1))
+returns c =
+    let t = c .before .before .before .before .before .before .before .before .args in
+    c .before .before .store-all .ensures
+    ∙ ap (λ (w : MaybeLsn). put (t .at) (optional (number 8) .spell (maybeLsnSays w)) (t .s .now)) (sym (c .before .before .before .before .before .enum-told .given .1))
 
 store8-requires : tie.Need-store8-requires
 store8-requires c κs = search needs
@@ -40,7 +43,10 @@ same-length-2 : tie.Need-same-length-2
 same-length-2 c = search needs
 
 returns-2 : tie.Need-returns-2
-returns-2 c = let t = c .before .before .before .before .before .before .before .before .before .before .before .before .args in mark-stored (t .at) (t .s .now) _ (c .before .before .before .before .before .before .store8 .ensures) _ _ (c .before .before .before .before .before .before .before .before .before .before .before .before .pre) (c .before .before .store64 .ensures) ∙ ap (λ (w : MaybeLsn). put (t .at) (optional (number 8) .spell (maybeLsnSays w)) (t .s .now)) (sym (c .before .before .before .before .before .before .before .before .before .watermark .given .1))
+returns-2 c =
+    let t = c .before .before .before .before .before .before .before .before .before .before .before .before .args in
+    mark-stored (t .at) (t .s .now) _ (c .before .before .before .before .before .before .store8 .ensures) _ _ (c .before .before .before .before .before .before .before .before .before .before .before .before .pre) (c .before .before .store64 .ensures)
+    ∙ ap (λ (w : MaybeLsn). put (t .at) (optional (number 8) .spell (maybeLsnSays w)) (t .s .now)) (sym (c .before .before .before .before .before .before .before .before .before .watermark .given .1))
 
 pub watermark-write-spec : {M : Type 1} → statement M
 watermark-write-spec =
