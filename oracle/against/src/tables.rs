@@ -124,3 +124,96 @@ fn segment_of(s: &commit::SegmentIdx) -> Segment {
     let pages = PageSet::from_bytes(&forms::of_set(&s.pageset).expect("at most 32 windows")).expect("in normal form");
     Segment { sid: SegmentId(s.sid.bytes()), pages, frames }
 }
+
+#[cfg(test)]
+#[path = "../../../host/tests/judge/mod.rs"]
+#[allow(dead_code)]
+mod judge;
+
+#[cfg(test)]
+mod tests {
+    use super::judge::TABLES;
+    use super::*;
+    use graft::core::page::Page;
+    use harness::random::Random;
+
+    fn id(r: &mut Random) -> [u8; 16] {
+        let mut id = [0; 16];
+        id[15] = r.below(4) as u8;
+        id
+    }
+
+    fn lsn(r: &mut Random) -> lsn::LSN {
+        lsn::LSN::new(if r.one_in(8) { u64::MAX - r.below(2) } else { 1 + r.below(5) })
+    }
+
+    fn page(r: &mut Random) -> graft::core::PageIdx {
+        graft::core::PageIdx::try_new(1 + r.below(130) as u32).unwrap()
+    }
+
+    /// A commit with pages, at times with a hash, a frame and checkpoints.
+    fn commit(r: &mut Random) -> commit::Commit {
+        let (first, last) = (page(r), page(r));
+        let (first, last) = (first.min(last), first.max(last));
+        let set = graft::core::pageset::PageSet::from_range(first..=last);
+        let frames = (0..r.below(2)).map(|_| commit::SegmentFrameIdx::new(r.below(100), last)).collect();
+        let segment = commit::SegmentIdx::new(graft::core::SegmentId::new(id(r)), set).with_frames(frames);
+        let mut hash = [r.below(3) as u8; 32];
+        hash[0] = b'C';
+        commit::Commit::new(graft::core::LogId::new(id(r)), lsn(r), graft::core::PageCount::new(r.below(200) as u32))
+            .with_segment_idx((!r.one_in(4)).then_some(segment))
+            .with_commit_hash(r.one_in(2).then(|| hash.try_into().unwrap()))
+            .with_checkpoints((0..r.below(4)).map(|_| lsn(r)).collect())
+    }
+
+    /// One random call on the original; refusals leave it as it was.
+    fn step(storage: &FjallStorage, r: &mut Random) {
+        let (vid, log) = (graft::core::VolumeId::new(id(r)), |r: &mut Random| Some(graft::core::LogId::new(id(r))));
+        match r.below(6) {
+            0 => drop(storage.guarded().volume_open(Some(vid), log(r), log(r))),
+            1 => drop(storage.store_commit(commit(r))),
+            2 => drop(storage.guarded().tag_replace(["a", "ab", "b", "line 7"][r.below(4) as usize], vid)),
+            3 => drop(storage.write_page(graft::core::SegmentId::new(id(r)), page(r), Page::EMPTY)),
+            4 => drop(storage.guarded().sync_remote_to_local(vid)),
+            _ => {
+                let pages = (0..r.below(5)).map(|_| (page(r), Page::EMPTY)).collect();
+                if let Ok(snapshot) = storage.reads().snapshot(&vid) {
+                    let count = graft::core::PageCount::new(r.below(5) as u32);
+                    drop(storage.guarded().commit(&vid, snapshot, count, pages));
+                }
+            }
+        }
+    }
+
+    /// Whatever the original stores is formed, in our bytes: the key orders are the same, present pages turned round.
+    #[test]
+    fn the_originals_tables_are_formed() {
+        harness::original::keep_panics();
+        let mut r = Random::new(7);
+        for _ in 0..60 {
+            let mut both = Both::new(Capacities { volumes: 4, tags: 4, commits: 64, checkpoints: 64, index: 999, presence: 999 });
+            assert_eq!(both.difference(), None);
+            for _ in 0..40 {
+                let stepped = std::panic::catch_unwind(std::panic::AssertUnwindSafe(|| step(&both.original, &mut r)));
+                let tables = tables_of(&both.original);
+                let bytes = [
+                    tables.volumes.as_bytes(),
+                    tables.tags.as_bytes(),
+                    tables.commits.as_bytes(),
+                    tables.checkpoints.as_bytes(),
+                    tables.index.as_bytes(),
+                    tables.presence.as_bytes(),
+                ];
+                for (kind, bytes) in TABLES.iter().zip(bytes) {
+                    assert!(kind.formed(bytes), "{} of the original: {bytes:02x?}", kind.name);
+                }
+                if stepped.is_err() {
+                    break; // a panic of the original may leave its lock taken
+                }
+            }
+            // ours is still empty, and a difference is seen where the original is not
+            let empty = tables_of(&both.original) == tables_of(&FjallStorage::open_temporary().unwrap());
+            assert_eq!(both.difference().is_none(), empty);
+        }
+    }
+}

@@ -1,11 +1,17 @@
 //! sample FILE: the original's answers to calls of every kind, in the form of oracle/SAMPLE.md. The same calls each time.
-use harness::ops::{self, Record};
+use harness::ops::{self, *};
 use harness::random::Random;
 use harness::{generate, original};
 use std::collections::BTreeMap;
 
-/// The bytes that the records of one call and one kind of answer may take together.
-const SHARE: usize = 5_200;
+/// The bytes that the answered records of one call and one kind of answer may take together; small domains and refusals have half of it.
+fn share(op: u8) -> usize {
+    match op {
+        SET_SIZE..=SET_CONTAINS_ALL => 3_000,
+        SET_UNION | SET_CUT | SET_TRUNCATE | FRAME_LIST_OF_4 | JOIN => 11_500,
+        _ => 4_400,
+    }
+}
 
 /// Keeps some records of each call, each number and each stream (small domains, random), drawn evenly from all that come.
 struct Sample {
@@ -26,7 +32,7 @@ impl Sample {
         let kept = self.kept.entry((op, record.code, record.found, self.stream)).or_default();
         kept.seen += 1;
         let (in_args, in_out) = ops::sizes(op).unwrap();
-        let share = if record.code == 0 && self.stream == 1 { SHARE } else { SHARE / 2 };
+        let share = if record.code == 0 && self.stream == 1 { share(op) } else { share(op) / 2 };
         let most = (share / (3 + in_args + in_out)).clamp(1, 16);
         if kept.records.len() < most {
             kept.records.push(record);
