@@ -138,8 +138,7 @@ pub fn frame_of_page(segment: &[u8], page: u32, out: &mut [u8]) -> Reply {
 /// The bytes of the frame that holds `page`, as a part of `lent`, or nothing: 1, 3, 23. `part` is written where it is found.
 pub fn frame_bytes<'a>(segment: &[u8], page: u32, lent: &'a [u8], part: &mut &'a [u8]) -> Reply {
     let mut out = Part { ptr: lent.as_ptr(), len: 0 };
-    let reply =
-        unsafe { raw::sigatuda_frame_bytes(segment.as_ptr(), segment.len(), page, lent.as_ptr(), lent.len(), &mut out) };
+    let reply = unsafe { raw::sigatuda_frame_bytes(segment.as_ptr(), segment.len(), page, lent.as_ptr(), lent.len(), &mut out) };
     if reply.found == 1 {
         // taken from `lent` by its place, so that no pointer of the archive is followed
         let at = (out.ptr as usize).wrapping_sub(lent.as_ptr() as usize);
@@ -165,9 +164,7 @@ pub fn snapshot_new(log: &[u8; 16], start: u64, end: u64, count: u32, out: &mut 
 
 /// The snapshot with a range after its path: 1, 2, 3.
 pub fn snapshot_append(snapshot: &[u8], log: &[u8; 16], start: u64, end: u64, out: &mut [u8]) -> Reply {
-    unsafe {
-        raw::sigatuda_snapshot_append(snapshot.as_ptr(), snapshot.len(), log, start, end, out.as_mut_ptr(), out.len())
-    }
+    unsafe { raw::sigatuda_snapshot_append(snapshot.as_ptr(), snapshot.len(), log, start, end, out.as_mut_ptr(), out.len()) }
 }
 
 /// The log of the first range and its last LSN, or nothing for an empty path: 1, 2, 3.

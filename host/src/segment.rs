@@ -132,12 +132,7 @@ impl ByteForm for SegmentRange {
         // joined with itself, a range is 2 or 3 where it is not in form
         plain::join(bytes, bytes, &mut [0; 417]).answer()?;
         let mut r = Reader(bytes);
-        Ok(SegmentRange {
-            sid: SegmentId(r.array()),
-            start: r.u64(),
-            end: r.u64(),
-            pages: PageSet::from_bytes(r.bytes(PageSet::SIZE))?,
-        })
+        Ok(SegmentRange { sid: SegmentId(r.array()), start: r.u64(), end: r.u64(), pages: PageSet::from_bytes(r.bytes(PageSet::SIZE))? })
     }
 }
 

@@ -1,6 +1,6 @@
 //! The six tables, in bytes that the caller lends. A type for each keeps them from being swapped, and Rust's borrows keep them apart.
-use crate::records::{Checkpoint, Commit, IndexEntry, PresentPage, Record, Tag, Volume};
 use crate::Refusal;
+use crate::records::{Checkpoint, Commit, IndexEntry, PresentPage, Record, Tag, Volume};
 use core::marker::PhantomData;
 
 /// A lent table of one kind of record: two bytes of count, then the records in the order of their keys. Two zero bytes, or more, are

@@ -64,9 +64,7 @@ fn crossed(name: &str, kind: &str) -> Vec<(String, String)> {
 
 /// The functions that a Rattle source exports, as C sees them.
 fn exported(source: &str) -> BTreeMap<String, Signature> {
-    let crossed = |(parameters, answer): Signature| {
-        (parameters.iter().flat_map(|(name, kind)| crossed(name, kind)).collect(), answer)
-    };
+    let crossed = |(parameters, answer): Signature| (parameters.iter().flat_map(|(name, kind)| crossed(name, kind)).collect(), answer);
     functions(source, "pub extern \"C\" fn ").into_iter().map(|(name, s)| (name, crossed(s))).collect()
 }
 

@@ -9,7 +9,12 @@ use sigatuda::*;
 const ROUNDS: usize = 4000;
 
 /// Makes forms, damages every other one up to three times, and hands them on; both good and bad ones must come.
-fn each(seed: u64, make: impl Fn(&mut Random) -> Vec<u8>, spoil: impl Fn(&mut Vec<u8>, &mut Random), mut judged: impl FnMut(&[u8]) -> bool) {
+fn each(
+    seed: u64,
+    make: impl Fn(&mut Random) -> Vec<u8>,
+    spoil: impl Fn(&mut Vec<u8>, &mut Random),
+    mut judged: impl FnMut(&[u8]) -> bool,
+) {
     let (mut r, mut good, mut bad) = (Random::new(seed), 0, 0);
     for round in 0..2 * ROUNDS {
         let mut form = make(&mut r);
@@ -70,11 +75,16 @@ fn snapshots() {
 
 /// The records of a kind, judged and read.
 fn records(seed: u64, kind: &Kind, read: impl Fn(&[u8]) -> Option<Vec<u8>>) {
-    each(seed, |r| make::record(kind, r), damage::value, |form| {
-        let in_form = kind.judges(form);
-        assert_eq!(read(form), in_form.then(|| form.to_vec()), "{}: {form:02x?}", kind.name);
-        in_form
-    });
+    each(
+        seed,
+        |r| make::record(kind, r),
+        damage::value,
+        |form| {
+            let in_form = kind.judges(form);
+            assert_eq!(read(form), in_form.then(|| form.to_vec()), "{}: {form:02x?}", kind.name);
+            in_form
+        },
+    );
 }
 
 #[test]
@@ -105,11 +115,16 @@ fn tables() {
                 damage::table(kind, form, r);
             }
         };
-        each(20 + seed as u64, |r| make::table(kind, r), spoil, |form| {
-            let formed = kind.formed(form);
-            assert_eq!(reads(form), formed, "{}: {form:02x?}", kind.name);
-            formed
-        });
+        each(
+            20 + seed as u64,
+            |r| make::table(kind, r),
+            spoil,
+            |form| {
+                let formed = kind.formed(form);
+                assert_eq!(reads(form), formed, "{}: {form:02x?}", kind.name);
+                formed
+            },
+        );
     }
 }
 

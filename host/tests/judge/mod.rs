@@ -95,9 +95,7 @@ fn tag(b: &[u8]) -> bool {
 fn commit(b: &[u8]) -> bool {
     let segment = there_or_zero(b, 62, 657) && (b[62] == 0 || segment(&b[63..657]) == 0);
     let listed = usize::from(b[657]);
-    let checkpoints = listed <= 8
-        && (0..listed).all(|i| u64_at(b, 658 + 8 * i) != 0)
-        && all_zero(&b[658 + 8 * listed..]);
+    let checkpoints = listed <= 8 && (0..listed).all(|i| u64_at(b, 658 + 8 * i) != 0) && all_zero(&b[658 + 8 * listed..]);
     b[0] == 0 && !u64_at(b, 17) != 0 && there_or_zero(b, 29, 62) && segment && checkpoints
 }
 

@@ -52,10 +52,9 @@ pub fn tables_of(storage: &FjallStorage) -> OwnedTables {
             page: PageIdx::new(page.to_u32()).expect("no page 0"),
             lsn: lsn_of(*at),
         })),
-        presence: laid(presence.iter().map(|&(sid, page)| PresentPage {
-            sid: SegmentId(sid),
-            page: PageIdx::new(page).expect("no page 0"),
-        })),
+        presence: laid(
+            presence.iter().map(|&(sid, page)| PresentPage { sid: SegmentId(sid), page: PageIdx::new(page).expect("no page 0") }),
+        ),
     }
 }
 
@@ -88,11 +87,8 @@ fn checkpoint_of(at: &logref::LogRef) -> Checkpoint {
 
 fn volume_of(v: &volume::Volume) -> Volume {
     let sync = |s: &volume::SyncPoint| SyncPoint { remote: lsn_of(s.remote), watermark: s.local_watermark.map(lsn_of) };
-    let pending = |p: &volume::PendingCommit| PendingCommit {
-        local: lsn_of(p.local),
-        commit: lsn_of(p.commit),
-        hash: hash_of(&p.commit_hash),
-    };
+    let pending =
+        |p: &volume::PendingCommit| PendingCommit { local: lsn_of(p.local), commit: lsn_of(p.commit), hash: hash_of(&p.commit_hash) };
     Volume {
         vid: VolumeId(v.vid.bytes()),
         local: LogId(v.local.bytes()),

@@ -135,8 +135,7 @@ pub fn snapshot_bytes(count: u32, path: &[([u8; 16], u64, u64)]) -> Vec<u8> {
 
 /// The form of the original's snapshot, which has at most 8 ranges.
 pub fn of_snapshot(snapshot: &Snapshot) -> Vec<u8> {
-    let path: Vec<_> =
-        snapshot.iter().map(|r| (r.log.bytes(), r.lsns.start().to_u64(), r.lsns.end().to_u64())).collect();
+    let path: Vec<_> = snapshot.iter().map(|r| (r.log.bytes(), r.lsns.start().to_u64(), r.lsns.end().to_u64())).collect();
     snapshot_bytes(snapshot.page_count.to_u32(), &path)
 }
 

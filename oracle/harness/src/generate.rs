@@ -75,8 +75,30 @@ fn snapshots(each: Each) {
 
 fn ranges_of_pages(each: Each) {
     let ends = [
-        0, 1, 2, 62, 63, 64, 65, 127, 128, 2046, 2047, 2048, 2049, 2111, 2112, LAST / 2, LAST - 2112, LAST - 2048, LAST - 2047,
-        LAST - 2046, LAST - 64, LAST - 63, LAST - 1, LAST,
+        0,
+        1,
+        2,
+        62,
+        63,
+        64,
+        65,
+        127,
+        128,
+        2046,
+        2047,
+        2048,
+        2049,
+        2111,
+        2112,
+        LAST / 2,
+        LAST - 2112,
+        LAST - 2048,
+        LAST - 2047,
+        LAST - 2046,
+        LAST - 64,
+        LAST - 63,
+        LAST - 1,
+        LAST,
     ];
     for first in ends {
         for last in ends {
