@@ -374,3 +374,47 @@ fn snapshot(r: &mut Random) -> Vec<u8> {
         .collect();
     snapshot_bytes(page(r), &path)
 }
+
+#[cfg(test)]
+mod tests {
+    use super::*;
+    use crate::original;
+    use std::collections::BTreeSet;
+
+    /// The random calls meet what docs/DIFFERENCES.md says of them.
+    #[test]
+    fn random_calls_meet_the_edges() {
+        original::keep_panics();
+        let mut met: BTreeSet<&str> = BTreeSet::new();
+        random(60_000, 3, &mut |op, args| {
+            let Some(record) = original::record(op, &args) else { return };
+            let (count, answer) = (usize::from(args[0]), (op, record.code, record.found));
+            let edges = [
+                ("set of 32 windows", op == SET_SIZE && count == 32),
+                ("page 2^32-1 in a set", op == SET_LAST && record.out == LAST.to_be_bytes()),
+                ("insert into 32 windows", answer == (SET_INSERT, 22, 0)),
+                ("union over 32 windows", answer == (SET_UNION, 22, 0)),
+                ("join over 32 windows", answer == (JOIN, 22, 0)),
+                ("joined", answer == (JOIN, 0, 1)),
+                ("not joined", answer == (JOIN, 0, 0)),
+                ("past the lent segment", answer == (FRAME_BYTES, 23, 0)),
+                ("reversed path range", answer == (SNAPSHOT_APPEND, 2, 0)),
+            ];
+            met.extend(edges.iter().filter(|e| e.1).map(|e| e.0));
+            if (FRAME_LIST..=FRAME_BYTES).contains(&op) {
+                let held = usize::from(args[401]);
+                let frames: Vec<_> = args[402..].chunks(12).take(held).map(|f| (Reader(f).u64(), Reader(&f[8..]).u32())).collect();
+                let sum = frames.iter().map(|f| f.0).sum::<u64>();
+                let edges = [
+                    ("16 frames", held == 16),
+                    ("sizes up to 2^64-1", sum == u64::MAX),
+                    ("frame up to page 2^32-1", frames.last().is_some_and(|f| f.1 == LAST)),
+                    ("frame of no bytes", frames.iter().any(|f| f.0 == 0)),
+                    ("no frames", held == 0),
+                ];
+                met.extend(edges.iter().filter(|e| e.1).map(|e| e.0));
+            }
+        });
+        assert_eq!(met.len(), 14, "{met:?}");
+    }
+}
