@@ -43,7 +43,15 @@ fn number64(out: &mut [u8], call: impl FnOnce(&mut u64) -> Reply) -> Reply {
 
 /// Runs a call. What it writes goes over `out`.
 pub fn run(op: u8, args: &[u8], out: &mut [u8]) -> Reply {
-    let mut a = Args(args);
+    let args = Args(args);
+    match op {
+        LSN_NEXT..=COUNT_LAST_PAGE => run_number(op, args, out),
+        SET_RANGE..=SET_REMOVE => run_set(op, args, out),
+        _ => run_record(op, args, out),
+    }
+}
+
+fn run_number(op: u8, mut a: Args, out: &mut [u8]) -> Reply {
     match op {
         LSN_NEXT => number64(out, |n| plain::lsn_next(a.u64(), n)),
         LSN_PREV => number64(out, |n| plain::lsn_prev(a.u64(), n)),
@@ -54,6 +62,12 @@ pub fn run(op: u8, args: &[u8], out: &mut [u8]) -> Reply {
         COUNT_NEXT => number32(out, |n| plain::count_next(a.u32(), n)),
         COUNT_PREV => number32(out, |n| plain::count_prev(a.u32(), n)),
         COUNT_LAST_PAGE => number32(out, |n| plain::count_last_page(a.u32(), n)),
+        _ => panic!("no call {op}"),
+    }
+}
+
+fn run_set(op: u8, mut a: Args, out: &mut [u8]) -> Reply {
+    match op {
         SET_RANGE => plain::set_range(a.u32(), a.u32(), out),
         SET_INSERT => plain::set_insert(a.take(SET), a.u32(), out),
         SET_UNION => plain::set_union(a.take(SET), a.take(SET), out),
@@ -69,6 +83,12 @@ pub fn run(op: u8, args: &[u8], out: &mut [u8]) -> Reply {
             plain::set_cut(a.take(SET), a.take(SET), common, rest)
         }
         SET_REMOVE => plain::set_remove(a.take(SET), a.u32(), a.u32(), out),
+        _ => panic!("no call {op}"),
+    }
+}
+
+fn run_record(op: u8, mut a: Args, out: &mut [u8]) -> Reply {
+    match op {
         FRAME_LIST | FRAME_LIST_OF_4 => {
             let (items, list) = out.split_at_mut(4);
             number32(items, |n| plain::frame_list(a.take(SEGMENT), list, n))
