@@ -1,0 +1,3 @@
+pub mod EntryRows
+pub mod EntryTurns
+pub mod EntryMerges
