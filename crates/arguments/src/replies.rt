@@ -1,0 +1,63 @@
+// Answers by value as a reply and what is lent: written where there is an answer under 0, else as found.
+use super::Reply;
+use core::lsn::LsnAnswer;
+use core::lsn::MaybeLsnAnswer;
+use core::page_count::MaybePage;
+use core::pageidx::PageAnswer;
+ghost use mathlib.Core.Path.{_≡_};
+ghost use Rattle.core.specs.Answers.{done};
+ghost use Rattle.core.specs.Says.{lsnSays, maybeLsnSays, pageSays, maybePageSays};
+ghost use Rattle.arguments.specs.Replies.{value, valueOr};
+
+// An LSN.
+pub fn put_lsn(a: LsnAnswer, out: &mut u64) -> Reply
+    ensures { λ r. ⌜ (r, now (out .exit)) ≡ value (λ m. m) (now (out .entry)) (lsnSays a) ⌝ }
+{
+    match a {
+        LsnAnswer::Refused(code) => Reply { code, found: 0 },
+        LsnAnswer::At(n) => {
+            *out = n.0;
+            Reply { code: 0, found: 1 }
+        }
+    }
+}
+
+// An LSN or nothing.
+pub fn put_maybe_lsn(a: MaybeLsnAnswer, out: &mut u64) -> Reply
+    ensures { λ r. ⌜ (r, now (out .exit)) ≡ valueOr (λ m. m) (now (out .entry)) (maybeLsnSays a) ⌝ }
+{
+    match a {
+        MaybeLsnAnswer::Refused(code) => Reply { code, found: 0 },
+        MaybeLsnAnswer::At(n) => {
+            *out = n.0;
+            Reply { code: 0, found: 1 }
+        }
+        MaybeLsnAnswer::Nothing => Reply { code: 0, found: 0 },
+    }
+}
+
+// A page.
+pub fn put_page(a: PageAnswer, out: &mut u32) -> Reply
+    ensures { λ r. ⌜ (r, now (out .exit)) ≡ value (λ m. m) (now (out .entry)) (pageSays a) ⌝ }
+{
+    match a {
+        PageAnswer::Refused(code) => Reply { code, found: 0 },
+        PageAnswer::At(p) => {
+            *out = p.0;
+            Reply { code: 0, found: 1 }
+        }
+    }
+}
+
+// A page or nothing.
+pub fn put_maybe_page(a: MaybePage, out: &mut u32) -> Reply
+    ensures { λ r. ⌜ (r, now (out .exit)) ≡ valueOr (λ m. m) (now (out .entry)) (done (maybePageSays a)) ⌝ }
+{
+    match a {
+        MaybePage::At(p) => {
+            *out = p.0;
+            Reply { code: 0, found: 1 }
+        }
+        MaybePage::Nothing => Reply { code: 0, found: 0 },
+    }
+}
