@@ -4,9 +4,11 @@ use core::lsn::LsnAnswer;
 use core::lsn::MaybeLsnAnswer;
 use core::page_count::MaybePage;
 use core::pageidx::PageAnswer;
+use volume::volume::ChangesAnswer;
 ghost use mathlib.Core.Path.{_≡_};
 ghost use Rattle.core.specs.Answers.{done};
 ghost use Rattle.core.specs.Says.{lsnSays, maybeLsnSays, pageSays, maybePageSays};
+ghost use Rattle.volume.specs.Volumes.{changesSays};
 ghost use Rattle.arguments.specs.Replies.{value, valueOr};
 
 // An LSN.
@@ -59,5 +61,23 @@ pub fn put_maybe_page(a: MaybePage, out: &mut u32) -> Reply
             Reply { code: 0, found: 1 }
         }
         MaybePage::Nothing => Reply { code: 0, found: 0 },
+    }
+}
+
+// A range of LSNs or nothing.
+pub fn put_changes(a: ChangesAnswer, start: &mut u64, end: &mut u64) -> Reply
+    ensures { λ r. ⌜ (r, (now (start .exit), now (end .exit))) ≡ valueOr (λ m. m) (now (start .entry), now (end .entry)) (changesSays a) ⌝ }
+{
+    match a {
+        ChangesAnswer::Refused(code) => Reply { code, found: 0 },
+        ChangesAnswer::Range {
+            start: first,
+            end: last,
+        } => {
+            *start = first.0;
+            *end = last.0;
+            Reply { code: 0, found: 1 }
+        }
+        ChangesAnswer::Nothing => Reply { code: 0, found: 0 },
     }
 }

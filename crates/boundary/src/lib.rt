@@ -2,3 +2,4 @@
 // answer; what is lent for the answer is written only then.
 pub mod forms;
 pub mod numbers;
+pub mod volumes;
