@@ -1,0 +1,2 @@
+pub mod ArgLaws
+pub mod SetLaws
