@@ -15,16 +15,22 @@ use Rattle.core.specs.Answers.{Answer, refused, done, ask, _>>=_, _>>_}
 use Rattle.pageset.specs.declared.PageSet.{PageSet}
 use Rattle.pageset.specs.declared.SetAnswer.{SetAnswer}
 use Rattle.pageset.specs.declared.CutAnswer.{CutAnswer}
-use Rattle.pageset.specs.Sets.{normal, blank, normalForm, rising, windowForms, holds, bit, maskAt, shown}
+use Rattle.pageset.specs.Sets.{normal, blank, normalForm, rising, windowForms, holds, bit, maskAt, shown, member}
 use Rattle.pageset.specs.Says.{IsSet, Gives, GivesOr22, refusedSet, emptySet, common, left}
 use Rattle.pageset.proofs.ResultLaws.{one-set}
 use Rattle.pageset.proofs.FormLaws.{and-snd}
-use Rattle.layout.specs.Codecs.{Codec}
+use Rattle.layout.specs.Codecs.{Codec, inForm}
+use Rattle.layout.proofs.HoldLaws.{in-form}
 use Rattle.layout.proofs.FormHolds.{set-held}
 use Rattle.layout.specs.Values.{setBytes, windowBytes}
 use Rattle.arguments.specs.declared.Reply.{Reply}
 use Rattle.arguments.specs.Replies.{none-under}
-use Rattle.arguments.specs.Sets.{lent, told, AreSet, SetLeft, SetLeftOr22, LeavesSet, LeavesSetOr22, LeavesCut, early, setPut, cutPut}
+use Rattle.arguments.specs.Replies as Replies
+use Rattle.pageset.specs.Rules.{newRule, cutRule, leftRule}
+use Rattle.setbytes.specs.Laid.{setLaid}
+use Rattle.setbytes.proofs.LaidLaws.{laid-normal}
+use Rattle.arguments.specs.Args.{argument, notASet, setArg}
+use Rattle.arguments.specs.Sets.{sized, told, AreSet, SetLeft, SetLeftOr22, LeavesSet, LeavesSetOr22, LeavesCut, early, setPut, cutPut}
 
 pub set-size : setBytes .size ≡ 385
 unfolding setBytes windowBytes
@@ -77,10 +83,6 @@ abbrev pub Early : {A : Type 0} → Answer A → Type 0
 Early (refused n) = (0 < n) × (n < 4)
 Early (done a) = Unit {0}
 
-pub early-ask : {A : Type 0} (b : Bool) (n : ℕ) (q : Answer A) → 0 < n → n < 4 → Early q → Early (ask b n >> q)
-early-ask true n q l h e = e
-early-ask false n q l h e = (l, h)
-
 is-early : (n : ℕ) → 0 < n → n < 4 → early n ≡ true
 is-early n l h = rw (ne-eqb n 0 (λ e. omega arith), ne-eqb n 22 (λ e. omega arith))
 
@@ -126,6 +128,27 @@ module _ (found : ℕ) (was : List ℕ) (a : SetAnswer) where
   pub leaves-set-or-22 : (q : Answer (ℕ → Bool)) → Early q → GivesOr22 a q → LeavesSetOr22 found was q put-left
   leaves-set-or-22 (refused n) e h = refused-left n (e .0) (e .1) h
   leaves-set-or-22 (done f) e h = rw set-size (set-or-22 f h (eqb (length was) 385) refl)
+
+-- a promise of the call by value, on arguments that equal the rule's, becomes the promise of the exported call
+module _ (found : ℕ) (was : List ℕ) (a : SetAnswer) (p q : Answer (ℕ → Bool)) (x : Reply × List ℕ) (e : p ≡ q) (n : Early q) where
+  pub left-set : Gives a p → x ≡ setPut found was a → LeavesSet found was q x
+  left-set g h = subst (λ (y : Reply × List ℕ). LeavesSet found was q y) (sym h) (leaves-set found was a q n (subst (λ (r : Answer (ℕ → Bool)). Gives a r) e g))
+
+  pub left-set-or-22 : GivesOr22 a p → x ≡ setPut found was a → LeavesSetOr22 found was q x
+  left-set-or-22 g h = subst (λ (y : Reply × List ℕ). LeavesSetOr22 found was q y) (sym h) (leaves-set-or-22 found was a q n (subst (λ (r : Answer (ℕ → Bool)). GivesOr22 a r) e g))
+
+-- what is found counts only under 0
+module _ (found found′ : ℕ) (was : List ℕ) (a : SetAnswer) where
+  same-by : by found was a (early (a .code)) (eqb (length was) 385) false ≡ by found′ was a (early (a .code)) (eqb (length was) 385) false
+  unfolding by
+  same-by = refl
+
+  by-code : (z : Bool) → eqb (a .code) 0 ≡ z → (a .code ≡ 0 → found ≡ found′) → setPut found was a ≡ setPut found′ was a
+  by-code true p h = ap (λ (n : ℕ). setPut n was a) (h (eqb-true (a .code) 0 p))
+  by-code false p h = sym (is-by found was a (early (a .code)) (eqb (length was) 385) false refl refl p) ∙ same-by ∙ is-by found′ was a (early (a .code)) (eqb (length was) 385) false refl refl p
+
+  pub same-found : (a .code ≡ 0 → found ≡ found′) → setPut found was a ≡ setPut found′ was a
+  same-found h = by-code (eqb (a .code) 0) refl h
 
 -- an answer under 0 is in normal form, and so is a refusal's empty set
 empty-normal : normal emptySet ≡ true
@@ -213,3 +236,46 @@ module _ (was was′ : List ℕ) (a : CutAnswer) where
       let e : a .code ≡ 3 = ap (λ (x : SetAnswer). x .code) h in
       let r : (none-under 3, (was, was′)) ≡ cutLeft = ap (λ (n : ℕ). (none-under n, (was, was′))) (sym e) ∙ cut-refused (λ z. omega arith) in
       (ap (λ (x : Reply × (List ℕ × List ℕ)). (x .0, x .1 .0)) (sym r), ap (λ (x : Reply × (List ℕ × List ℕ)). (x .0, x .1 .1)) (sym r))
+
+-- the promise of a cut by value, on arguments that equal the rule's
+pub left-cut : (was was′ : List ℕ) (a : CutAnswer) (s t u v : PageSet) (x : Reply × (List ℕ × List ℕ)) → s ≡ u → t ≡ v → Gives (common a) (cutRule s t) × Gives (left a) (leftRule s t) → x ≡ cutPut was was′ a → LeavesCut was was′ (cutRule u v) (leftRule u v) x
+unfolding cutRule leftRule
+left-cut was was′ a s t u v x d e g h =
+    subst (λ (y : Reply × (List ℕ × List ℕ)). LeavesCut was was′ (cutRule u v) (leftRule u v) y) (sym h)
+    (leaves-cut was was′ a (normal u && normal v) (λ (p : ℕ). member u p && member v p) (λ (p : ℕ). member u p && not (member v p))
+    (subst (λ (r : Answer (ℕ → Bool)). Gives (common a) r) (ap₂ cutRule d e) (g .0)) (subst (λ (r : Answer (ℕ → Bool)). Gives (left a) r) (ap₂ leftRule d e) (g .1)))
+
+-- ---- whether an inserted page was new
+
+pub new-found : (s t : PageSet) (p number found : ℕ) (new : Bool) → found ≡ Replies.bit new → new ≡ newRule s p number → s ≡ t → number ≡ 0 → found ≡ Replies.bit (not (member t p))
+unfolding newRule
+new-found s t p number found new b h e z = b ∙ ap Replies.bit (h ∙ ap (λ (n : ℕ). eqb n 0 && not (member s p)) z ∙ ap (λ (u : PageSet). not (member u p)) e)
+
+-- a cut leaves one thing only
+module _ (was was′ : List ℕ) (p q : Answer (ℕ → Bool)) where
+  abbrev sizedBoth : Answer (ℕ → Bool) → Answer (ℕ → Bool)
+  sizedBoth r = sized (setBytes .size) was′ (sized (setBytes .size) was r)
+
+  pub one-cut : (x y : Reply × (List ℕ × List ℕ)) → LeavesCut was was′ p q x → LeavesCut was was′ p q y → x ≡ y
+  one-cut x y h k =
+      let a = one-left 1 was (sizedBoth p) (x .0, x .1 .0) (y .0, y .1 .0) (h .0) (k .0) in
+      let b = one-left 1 was′ (sizedBoth q) (x .0, x .1 .1) (y .0, y .1 .1) (h .1) (k .1) in
+      λ i. (a i .0, (a i .1, b i .1))
+
+-- ---- 3 comes just where the bytes of an argument are not those of a set in form
+
+module _ (b : List ℕ) where
+  abbrev fine : Bool
+  fine = eqb (length b) (setBytes .size) && inForm setBytes normalForm b
+
+  not-normal : normal notASet ≡ false
+  unfolding notASet normal blank normalForm rising windowForms holds bit maskAt
+  not-normal = refl
+
+  by-form : (t : Bool) → fine ≡ t → normal (cond t (setLaid (setBytes .read b)) notASet) ≡ t
+  by-form true e = laid-normal (setBytes .read b) (in-form setBytes normalForm b (and-snd (eqb (length b) (setBytes .size)) (inForm setBytes normalForm b) e) .1)
+  by-form false e = not-normal
+
+  pub arg-normal : normal (setArg b) ≡ (eqb (length b) (setBytes .size) && inForm setBytes normalForm b)
+  unfolding argument
+  arg-normal = by-form fine refl

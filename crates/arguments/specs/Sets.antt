@@ -18,8 +18,8 @@ use Rattle.arguments.specs.declared.Reply.{Reply}
 use Rattle.arguments.specs.Replies.{none-under}
 
 -- after the arguments, what is lent for an answer of n bytes: 3 for another length
-abbrev pub lent : {A : Type 0} → ℕ → List ℕ → Answer A → Answer A
-lent n was q = q >>= λ a. (ask (eqb (length was) n) 3 >> done a)
+abbrev pub sized : {A : Type 0} → ℕ → List ℕ → Answer A → Answer A
+sized n was q = q >>= λ a. (ask (eqb (length was) n) 3 >> done a)
 
 -- under 0, and whether an answer was found
 abbrev pub told : ℕ → Reply
@@ -43,16 +43,16 @@ SetLeftOr22 found was (done f) x = SetLeft found was (done f) x ⊎ ((x ≡ (non
 
 -- the call's promise, with the lent slice checked in its turn
 abbrev pub LeavesSet : ℕ → List ℕ → Answer (ℕ → Bool) → Reply × List ℕ → Type 0
-LeavesSet found was q x = SetLeft found was (lent (setBytes .size) was q) x
+LeavesSet found was q x = SetLeft found was (sized (setBytes .size) was q) x
 
 abbrev pub LeavesSetOr22 : ℕ → List ℕ → Answer (ℕ → Bool) → Reply × List ℕ → Type 0
-LeavesSetOr22 found was q x = SetLeftOr22 found was (lent (setBytes .size) was q) x
+LeavesSetOr22 found was q x = SetLeftOr22 found was (sized (setBytes .size) was q) x
 
 -- a cut's promise: the common pages in one slice, those left in the other, both slices checked
 abbrev pub LeavesCut : List ℕ → List ℕ → Answer (ℕ → Bool) → Answer (ℕ → Bool) → Reply × (List ℕ × List ℕ) → Type 0
 LeavesCut was was′ common rest x =
-    SetLeft 1 was (lent (setBytes .size) was′ (lent (setBytes .size) was common)) (x .0, x .1 .0)
-    × SetLeft 1 was′ (lent (setBytes .size) was′ (lent (setBytes .size) was rest)) (x .0, x .1 .1)
+    SetLeft 1 was (sized (setBytes .size) was′ (sized (setBytes .size) was common)) (x .0, x .1 .0)
+    × SetLeft 1 was′ (sized (setBytes .size) was′ (sized (setBytes .size) was rest)) (x .0, x .1 .1)
 
 -- ---- an answer by value, as it is put
 

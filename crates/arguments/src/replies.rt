@@ -12,7 +12,7 @@ ghost use Rattle.core.specs.Answers.{done};
 ghost use Rattle.core.specs.Says.{lsnSays, maybeLsnSays, pageSays, maybePageSays};
 ghost use Rattle.volume.specs.Volumes.{changesSays};
 ghost use Rattle.pagecalls.specs.Says.{countSays, pageSays as endSays, yesSays};
-ghost use Rattle.arguments.specs.Replies.{value, valueOr, yesOrNo};
+ghost use Rattle.arguments.specs.Replies.{value, valueOr, yesOrNo, bit as bitOf};
 
 // An LSN.
 pub fn put_lsn(a: LsnAnswer, out: &mut u64) -> Reply
@@ -121,4 +121,11 @@ pub fn yes_or_no(a: YesAnswer) -> Reply
         YesAnswer::Yes => Reply { code: 0, found: 1 },
         YesAnswer::No => Reply { code: 0, found: 0 },
     }
+}
+
+// 1 for yes, 0 for no.
+pub fn bit(b: bool) -> u32
+    ensures { λ r. ⌜ r ≡ bitOf b ⌝ }
+{
+    if b { 1 } else { 0 }
 }

@@ -2,4 +2,5 @@
 // answer; what is lent for the answer is written only then.
 pub mod forms;
 pub mod numbers;
+pub mod sets;
 pub mod volumes;
