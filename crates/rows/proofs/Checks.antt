@@ -18,29 +18,27 @@ use Rattle.table.proofs.Checks.{well-room}
 use Rattle.layout.specs.Codecs.{Codec, inForm}
 use Rattle.layout.specs.Tables.{formedIn}
 use Rattle.layout.proofs.HoldLaws.{in-form}
-use Rattle.rows.proofs.Rows.{Layout, formed-well}
+use Rattle.rows.proofs.Rows.{Layout, formed-tests, formed-well, formed-tested}
 use Rattle.rows.proofs.Finds.{rowAt}
 
 -- ---- the loop
 
-module _ {R : Type 0} (c : Codec R) (k : ℕ) (form : R → Bool) (t : List ℕ) where
+module _ {R K : Type 0} {c : Codec R} {s k : ℕ} {form : R → Bool} {key : R → K} {order : K → K → Ordering} (L : Layout c s k form key order) (t : List ℕ) where
   -- the whole test is that of the rows from i on
   abbrev pub Left : ℕ → Type 0
-  Left i = formedIn c k form t ≡ all (inForm c form) (drop i (recs (c .size) t))
+  Left i = formedIn c k form t ≡ all (inForm c form) (drop i (recs s t))
 
-  pub check-no : (b : Bool) → b ≡ wellOrdered (c .size) k t → b ≡ false → false ≡ formedIn c k form t
-  unfolding formedIn
-  check-no b e f = sym (rw (sym e ∙ f))
+  pub check-no : (b : Bool) → b ≡ wellOrdered s k t → b ≡ false → false ≡ formedIn c k form t
+  check-no b e f = sym (formed-tests L t ∙ rw (sym e ∙ f))
 
-  pub check-start : (b : Bool) → b ≡ wellOrdered (c .size) k t → b ≡ true → Left 0
-  unfolding formedIn
-  check-start b e f = rw (sym e ∙ f)
+  pub check-start : (b : Bool) → b ≡ wellOrdered s k t → b ≡ true → Left 0
+  check-start b e f = formed-tests L t ∙ rw (sym e ∙ f)
 
-  module _ (i : ℕ) (l : i < countOf t) (b : Bool) (e : b ≡ inForm c form (part (2 + i * c .size) (c .size) t)) (h : Left i) where
-    step : all (inForm c form) (drop i (recs (c .size) t)) ≡ (b && all (inForm c form) (drop (suc i) (recs (c .size) t)))
+  module _ (i : ℕ) (l : i < countOf t) (b : Bool) (e : b ≡ inForm c form (part (2 + i * s) s t)) (h : Left i) where
+    step : all (inForm c form) (drop i (recs s t)) ≡ (b && all (inForm c form) (drop (suc i) (recs s t)))
     step =
-        all-step (inForm c form) (recs (c .size) t) [] i (omega (arith, length-recs (c .size) t))
-        ∙ ap (λ (p : Bool). p && all (inForm c form) (drop (suc i) (recs (c .size) t))) (ap (inForm c form) (recs-at (c .size) t i l) ∙ sym e)
+        all-step (inForm c form) (recs s t) [] i (omega (arith, length-recs s t))
+        ∙ ap (λ (p : Bool). p && all (inForm c form) (drop (suc i) (recs s t))) (ap (inForm c form) (recs-at s t i l) ∙ sym e)
 
     pub check-next : b ≡ true → Left (i + 1)
     check-next f = h ∙ step ∙ rw (f, add-one)
@@ -51,8 +49,8 @@ module _ {R : Type 0} (c : Codec R) (k : ℕ) (form : R → Bool) (t : List ℕ)
   pub check-end : (i : ℕ) → countOf t ≤ i → Left i → true ≡ formedIn c k form t
   unfolding all
   check-end i l h =
-      let n : length (recs (c .size) t) ≤ i = omega (arith, length-recs (c .size) t) in
-      sym (h ∙ ap (all (inForm c form)) (drop-of-length-le (recs (c .size) t) n))
+      let n : length (recs s t) ≤ i = omega (arith, length-recs s t) in
+      sym (h ∙ ap (all (inForm c form)) (drop-of-length-le (recs s t) n))
 
 -- row i as a part of a slice: what `&t[at..at + s]` holds
 pub row-slice : (s i : ℕ) (t : List ℕ) → take (2 + i * s + s - (2 + i * s)) (drop (2 + i * s) t) ≡ part (2 + i * s) s t
@@ -70,21 +68,20 @@ all-getD f [] i d e h = absurd (omega arith)
 all-getD f (x ∷ l) zero d e h = and-fst (f x) (all f l) e
 all-getD f (x ∷ l) (suc i) d e h = all-getD f l i d (and-snd (f x) (all f l) e) (omega arith)
 
-module _ {R K : Type 0} {c : Codec R} {k : ℕ} {form : R → Bool} {key : R → K} {order : K → K → Ordering} (L : Layout c k form key order)
+module _ {R K : Type 0} {c : Codec R} {s k : ℕ} {form : R → Bool} {key : R → K} {order : K → K → Ordering} (L : Layout c s k form key order)
     (t : List ℕ) (e : formedIn c k form t ≡ true) (i : ℕ) (l : i < countOf t) where
-  pub row-in : 2 + i * c .size + c .size ≤ length t
-  row-in = row-room (c .size) k i t (L .sized) (formed-well L t e) l
+  pub row-in : 2 + i * s + s ≤ length t
+  row-in = row-room s k i t (L .sized) (formed-well L t e) l
 
-  row-test : inForm c form (part (2 + i * c .size) (c .size) t) ≡ true
-  unfolding formedIn
+  row-test : inForm c form (part (2 + i * s) s t) ≡ true
   row-test =
-      ap (inForm c form) (sym (recs-at (c .size) t i l))
-      ∙ all-getD (inForm c form) (recs (c .size) t) i [] (and-snd (wellOrdered (c .size) k t) (all (inForm c form) (recs (c .size) t)) e) (omega (arith, length-recs (c .size) t))
+      ap (inForm c form) (sym (recs-at s t i l))
+      ∙ all-getD (inForm c form) (recs s t) i [] (formed-tested L t e) (omega (arith, length-recs s t))
 
   -- the record that it spells is in form
-  pub row-form : form (rowAt c t i) ≡ true
-  row-form = in-form c form (part (2 + i * c .size) (c .size) t) row-test .1
+  pub row-form : form (rowAt c s t i) ≡ true
+  row-form = in-form c form (part (2 + i * s) s t) row-test .1
 
   -- and the row is that record's bytes
-  pub row-spelled : c .spell (rowAt c t i) ≡ part (2 + i * c .size) (c .size) t
-  row-spelled = in-form c form (part (2 + i * c .size) (c .size) t) row-test .0
+  pub row-spelled : c .spell (rowAt c s t i) ≡ part (2 + i * s) s t
+  row-spelled = in-form c form (part (2 + i * s) s t) row-test .0

@@ -32,7 +32,7 @@ use Rattle.table.proofs.Runs.{run-of}
 use Rattle.layout.specs.Codecs.{Codec}
 use Rattle.layout.specs.Tables.{formedIn, tableIn}
 use Rattle.rows.specs.Lookups.{nth, stretch, onlyIf, from, within}
-use Rattle.rows.proofs.Rows.{Layout, formed-well, formed-forms, formed-up, rows-are, read-spelled, length-rows}
+use Rattle.rows.proofs.Rows.{Layout, rows-read, formed-well, formed-forms, formed-up, rows-are, read-spelled, length-rows}
 
 -- ---- the rules' side: of records in key order the first that passes a test is the first at or after a key, if that passes
 
@@ -80,42 +80,14 @@ nth-end [] i h = refl
 nth-end (x ∷ l) zero h = absurd (omega arith)
 nth-end (x ∷ l) (suc i) h = nth-end l i (omega arith)
 
-module _ {R : Type 0} (c : Codec R) (t : List ℕ) where
-  -- what row i spells
-  abbrev pub rowAt : ℕ → R
-  rowAt i = c .read (part (2 + i * c .size) (c .size) t)
-
-  row-is : (i : ℕ) → i < countOf t → c .read (getD (recs (c .size) t) i []) ≡ rowAt i
-  row-is i h = ap (c .read) (recs-at (c .size) t i h)
-
-  -- record i is that, if there is one
-  pub row-nth : (i : ℕ) → i < countOf t → nth i (tableIn c t .rows) ≡ some (rowAt i)
-  unfolding tableIn
-  row-nth i h = nth-map (c .read) (recs (c .size) t) i [] (omega (arith, length-recs (c .size) t)) ∙ ap some (row-is i h)
-
-  pub row-end : (i : ℕ) → countOf t ≤ i → nth i (tableIn c t .rows) ≡ none
-  row-end i h = nth-end (tableIn c t .rows) i (omega (arith, length-rows c t))
-
-  -- the records from i on, for a loop that reads row by row
-  pub rows-from : (i : ℕ) → i < countOf t → drop i (tableIn c t .rows) ≡ rowAt i ∷ drop (i + 1) (tableIn c t .rows)
-  unfolding tableIn
-  rows-from i h =
-      sym (map-drop (c .read) i (recs (c .size) t))
-      ∙ ap (map (c .read)) (drop-cons (recs (c .size) t) i [] (omega (arith, length-recs (c .size) t)))
-      ∙ ap₂ (λ (r : R) (l : List R). r ∷ l) (row-is i h) (map-drop (c .read) (suc i) (recs (c .size) t) ∙ ap (λ (n : ℕ). drop n (map (c .read) (recs (c .size) t))) (sym (add-one i)))
-
-  -- the records from i up to j, likewise
-  pub stretch-next : (i j : ℕ) → i < j → j ≤ countOf t → stretch i j (tableIn c t .rows) ≡ rowAt i ∷ stretch (i + 1) j (tableIn c t .rows)
-  stretch-next i j l h =
-      let e : j - i ≡ suc (j - (i + 1)) = omega arith in
-      ap (λ (n : ℕ). take n (drop i (tableIn c t .rows))) e ∙ ap (take (suc (j - (i + 1)))) (rows-from i (omega arith))
+-- what row i spells, where rows have s bytes
+abbrev pub rowAt : {R : Type 0} → Codec R → ℕ → List ℕ → ℕ → R
+rowAt c s t i = c .read (part (2 + i * s) s t)
 
 pub stretch-end : {A : Type 0} (i j : ℕ) (l : List A) → j ≤ i → stretch i j l ≡ []
 stretch-end i j l h =
     let e : j - i ≡ 0 = omega arith in
     ap (λ (n : ℕ). take n (drop i l)) e
-
--- ---- the bytes of a key
 
 -- not below, not above: in bytes and as the rules have it
 not-below : (o : Order) → not (isLess (turned o)) ≡ isLe (ordering o)
@@ -134,7 +106,33 @@ unfolding those
 run-those k a b [] = refl
 run-those k a b (x ∷ rs) = rw (run-those k a b rs)
 
-module _ {R K : Type 0} {c : Codec R} {k : ℕ} {form : R → Bool} {key : R → K} {order : K → K → Ordering} (L : Layout c k form key order) where
+module _ {R K : Type 0} {c : Codec R} {s k : ℕ} {form : R → Bool} {key : R → K} {order : K → K → Ordering} (L : Layout c s k form key order) where
+  row-is : (t : List ℕ) (i : ℕ) → i < countOf t → c .read (getD (recs s t) i []) ≡ rowAt c s t i
+  row-is t i h = ap (c .read) (recs-at s t i h)
+
+  -- record i is what row i spells, if there is one
+  pub row-nth : (t : List ℕ) (i : ℕ) → i < countOf t → nth i (tableIn c t .rows) ≡ some (rowAt c s t i)
+  row-nth t i h = ap (nth i) (rows-read L t) ∙ nth-map (c .read) (recs s t) i [] (omega (arith, length-recs s t)) ∙ ap some (row-is t i h)
+
+  pub row-end : (t : List ℕ) (i : ℕ) → countOf t ≤ i → nth i (tableIn c t .rows) ≡ none
+  row-end t i h = nth-end (tableIn c t .rows) i (omega (arith, length-rows L t))
+
+  -- the records from i on, for a loop that reads row by row
+  pub rows-from : (t : List ℕ) (i : ℕ) → i < countOf t → drop i (tableIn c t .rows) ≡ rowAt c s t i ∷ drop (i + 1) (tableIn c t .rows)
+  rows-from t i h =
+      let d : (n : ℕ) → map (c .read) (drop n (recs s t)) ≡ drop n (tableIn c t .rows) = λ n. map-drop (c .read) n (recs s t) ∙ ap (drop n) (sym (rows-read L t)) in
+      sym (d i)
+      ∙ ap (map (c .read)) (drop-cons (recs s t) i [] (omega (arith, length-recs s t)))
+      ∙ ap₂ (λ (r : R) (l : List R). r ∷ l) (row-is t i h) (d (suc i) ∙ ap (λ (n : ℕ). drop n (tableIn c t .rows)) (sym (add-one i)))
+
+  -- the records from i up to j, likewise
+  pub stretch-next : (t : List ℕ) (i j : ℕ) → i < j → j ≤ countOf t → stretch i j (tableIn c t .rows) ≡ rowAt c s t i ∷ stretch (i + 1) j (tableIn c t .rows)
+  stretch-next t i j l h =
+      let e : j - i ≡ suc (j - (i + 1)) = omega arith in
+      ap (λ (n : ℕ). take n (drop i (tableIn c t .rows))) e ∙ ap (take (suc (j - (i + 1)))) (rows-from t i (omega arith))
+
+  -- ---- the bytes of a key
+
   -- the bytes kb name the key x
   abbrev pub Names : List ℕ → K → Type 0
   Names kb x = (r : R) → form r ≡ true → ordering (cmp k kb (c .spell r)) ≡ order x (key r)
@@ -172,27 +170,28 @@ module _ {R K : Type 0} {c : Codec R} {k : ℕ} {form : R → Bool} {key : R →
         ∙ from-step (cmp k kb (c .spell r)) (spot k kb (map (c .spell) l)) r l (from key order x l) (from-look l (and-snd (form r) (all form l) e))
 
     module _ (t : List ℕ) (e : formedIn c k form t ≡ true) where
-      get-rows : get key order x (tableIn c t .rows) ≡ Option·map (c .read) (look k kb (recs (c .size) t))
+      -- the record of a key as bytes have it
+      pub get-rows : get key order x (tableIn c t .rows) ≡ Option·map (c .read) (look k kb (recs s t))
       get-rows = get-look (tableIn c t .rows) (formed-forms L t e) ∙ ap (λ (rs : List (List ℕ)). Option·map (c .read) (look k kb rs)) (sym (rows-are L t e))
 
       -- the record of a key is the one at the spot of its bytes
-      pub get-at : (i : ℕ) → spot k kb (recs (c .size) t) ≡ At i → get key order x (tableIn c t .rows) ≡ some (rowAt c t i)
+      pub get-at : (i : ℕ) → spot k kb (recs s t) ≡ At i → get key order x (tableIn c t .rows) ≡ some (rowAt c s t i)
       get-at i p =
-          let l : i < countOf t = omega (arith, at-lt k kb (recs (c .size) t) i p, length-recs (c .size) t) in
-          get-rows ∙ ap (Option·map (c .read)) (look-at k kb (recs (c .size) t) i p) ∙ ap some (row-is c t i l)
+          let l : i < countOf t = omega (arith, at-lt k kb (recs s t) i p, length-recs s t) in
+          get-rows ∙ ap (Option·map (c .read)) (look-at k kb (recs s t) i p) ∙ ap some (row-is t i l)
 
       -- and where the bytes stand in a gap there is none
-      pub get-gap : (i : ℕ) → spot k kb (recs (c .size) t) ≡ Gap i → get key order x (tableIn c t .rows) ≡ none
-      get-gap i p = get-rows ∙ ap (Option·map (c .read)) (look-gap k kb (recs (c .size) t) i (well-rises (c .size) k t (formed-well L t e)) p)
+      pub get-gap : (i : ℕ) → spot k kb (recs s t) ≡ Gap i → get key order x (tableIn c t .rows) ≡ none
+      get-gap i p = get-rows ∙ ap (Option·map (c .read)) (look-gap k kb (recs s t) i (well-rises s k t (formed-well L t e)) p)
 
       -- the first record at or after a key stands at the place of its bytes
-      pub from-place : (i : ℕ) → i ≡ place (spot k kb (recs (c .size) t)) → from key order x (tableIn c t .rows) ≡ nth i (tableIn c t .rows)
+      pub from-place : (i : ℕ) → i ≡ place (spot k kb (recs s t)) → from key order x (tableIn c t .rows) ≡ nth i (tableIn c t .rows)
       from-place i p =
           from-look (tableIn c t .rows) (formed-forms L t e)
           ∙ ap (λ (j : ℕ). nth j (tableIn c t .rows)) (ap (λ (rs : List (List ℕ)). place (spot k kb rs)) (sym (rows-are L t e)) ∙ sym p)
 
       -- so the first that passes a test that holds from the key on is the record there, if it passes
-      pub first-place : (f : R → Bool) → FromOn key order form f x → (i : ℕ) → i ≡ place (spot k kb (recs (c .size) t)) → first f (tableIn c t .rows) ≡ onlyIf f (nth i (tableIn c t .rows))
+      pub first-place : (f : R → Bool) → FromOn key order form f x → (i : ℕ) → i ≡ place (spot k kb (recs s t)) → first f (tableIn c t .rows) ≡ onlyIf f (nth i (tableIn c t .rows))
       first-place f h i p =
           first-from key order form f x h (tableIn c t .rows) (formed-up L t e) (formed-forms L t e)
           ∙ ap (onlyIf f) (from-place i p)
@@ -217,12 +216,11 @@ module _ {R K : Type 0} {c : Codec R} {k : ℕ} {form : R → Bool} {key : R →
         (not-above (cmp k b (c .spell r)) ∙ ap (λ (o : Ordering). not (isLt o)) (nb r f))
 
     -- the run between two keys is the records whose keys lie between them
-    pub run-rows : (t : List ℕ) → formedIn c k form t ≡ true → (i j : ℕ) → RunOf (c .size) k a b t i j → stretch i j (tableIn c t .rows) ≡ those (within key order x y) (tableIn c t .rows)
-    unfolding tableIn
+    pub run-rows : (t : List ℕ) → formedIn c k form t ≡ true → (i j : ℕ) → RunOf s k a b t i j → stretch i j (tableIn c t .rows) ≡ those (within key order x y) (tableIn c t .rows)
     run-rows t e i j h =
-        let rs : List (List ℕ) = recs (c .size) t in
-        let l : List R = map (c .read) rs in
+        let l : List R = tableIn c t .rows in
         let f : all form l ≡ true = formed-forms L t e in
-        sym (map-take (c .read) (j - i) (drop i rs) ∙ ap (take (j - i)) (map-drop (c .read) i rs))
-        ∙ ap (map (c .read)) (run-of (c .size) k a b t i j (well-rises (c .size) k t (formed-well L t e)) h ∙ run-those k a b rs ∙ ap (those (inRun k a b)) (rows-are L t e) ∙ those-spelled (inRun k a b) (within key order x y) in-run l f)
+        ap (stretch i j) (rows-read L t)
+        ∙ sym (map-take (c .read) (j - i) (drop i (recs s t)) ∙ ap (take (j - i)) (map-drop (c .read) i (recs s t)))
+        ∙ ap (map (c .read)) (run-of s k a b t i j (well-rises s k t (formed-well L t e)) h ∙ run-those k a b (recs s t) ∙ ap (those (inRun k a b)) (rows-are L t e) ∙ those-spelled (inRun k a b) (within key order x y) in-run l f)
         ∙ read-spelled L (those (within key order x y) l) (all-those form (within key order x y) l f)

@@ -17,7 +17,7 @@ use Rattle.octets.proofs.Orders as O
 use Rattle.octets.proofs.Places.{part-front}
 use Rattle.core.specs.Orders.{bytes, both, up, next}
 use Rattle.core.specs.Orders as C
-use Rattle.core.proofs.OrderLaws.{Lawful, ordering-then, ordering-lex}
+use Rattle.core.proofs.OrderLaws.{part-whole, Lawful, ordering-then, ordering-lex}
 use Rattle.table.specs.Records.{cmp}
 use Rattle.layout.specs.Codecs.{Codec, number, complement, raw, padded, reserved, pair, viewed, Holds}
 use Rattle.rows.proofs.Rows.{Layout}
@@ -144,12 +144,17 @@ module _ {R K : Type 0} {c : Codec R} {d : Codec K} {form : R → Bool} {key : R
   pub front-names : (kb : List ℕ) (x : K) → ok x → part 0 (d .size) kb ≡ d .spell x → (r : R) → form r ≡ true → ordering (cmp (d .size) kb (c .spell r)) ≡ order x (key r)
   front-names kb x h e r f = ap₂ (λ (a b : List ℕ). ordering (lex a b)) e (front-key r f) ∙ A .stand x (key r) h (F .okay r f)
 
+  -- and so do its bytes alone
+  pub own-names : (x : K) → ok x → (r : R) → form r ≡ true → ordering (cmp (d .size) (d .spell x) (c .spell r)) ≡ order x (key r)
+  own-names x h = front-names (d .spell x) x h (part-whole (d .spell x) (d .size) (A .long x h))
+
   -- the layout of a record with that key
-  pub front-layout : Lawful order → 0 < c .size → d .size ≤ c .size → ((r : R) → form r ≡ true → Holds c r) → Layout c (d .size) form key order
-  front-layout O p s h = record {
+  pub front-layout : Lawful order → (s : ℕ) → c .size ≡ s → 0 < s → d .size ≤ s → ((r : R) → form r ≡ true → Holds c r) → Layout c s (d .size) form key order
+  front-layout O s e p l h = record {
     lawful = O;
+    wide = e;
     sized = p;
-    short = s;
+    short = l;
     holds = h;
     ordered = λ a b f g. front-names (c .spell a) (key a) (F .okay a f) (front-key a f) b g;
   }

@@ -18,12 +18,12 @@ use Rattle.table.specs.Run.{inRun, RunOf}
 use Rattle.table.specs.declared.Spot.the-variants.{At, Gap}
 use Rattle.table.proofs.Rows.{length-recs}
 use Rattle.table.proofs.Spots.{at-lt, gap-le}
-use Rattle.table.proofs.Checks.{well-two, well-rises}
+use Rattle.table.proofs.Checks.{well-rises}
 use Rattle.table.proofs.Runs as Run
 use Rattle.layout.specs.Codecs.{Codec}
 use Rattle.layout.specs.Tables.{formedIn, tableIn, laidOver}
 use Rattle.rows.specs.Lookups.{within}
-use Rattle.rows.proofs.Rows.{Layout, Laid, formed-well, formed-forms, formed-rules, rows-are, laid-holds}
+use Rattle.rows.proofs.Rows.{Layout, formed-two, Laid, formed-well, formed-forms, formed-rules, rows-are, laid-holds}
 use Rattle.rows.proofs.Finds.{Names, in-run, those-spelled, run-rows, stretch-end}
 
 -- ---- lists: what is left where those from place i up to place j go
@@ -71,21 +71,24 @@ one-key Ordering·lt = refl
 one-key Ordering·eq = refl
 one-key Ordering·gt = refl
 
-module _ {R K : Type 0} {c : Codec R} {k : ℕ} {form : R → Bool} {key : R → K} {order : K → K → Ordering} (L : Layout c k form key order)
+pub within-one : {R K : Type 0} (key : R → K) (order : K → K → Ordering) (x : K) → _≡_ {A = R → Bool} (within key order x x) (λ r. isEq (order x (key r)))
+within-one key order x d r = one-key (order x (key r)) d
+
+module _ {R K : Type 0} {c : Codec R} {s k : ℕ} {form : R → Bool} {key : R → K} {order : K → K → Ordering} (L : Layout c s k form key order)
     (t : List ℕ) (e : formedIn c k form t ≡ true) where
   -- bytes that hold the table without the records that pass a test
   pub remove-holds : (f : R → Bool) → Laid L (remove f (tableIn c t)) t (laidOver c (remove f (tableIn c t)) t)
   remove-holds f =
-      laid-holds L (remove f (tableIn c t)) t (formed-remove key order (L .lawful) form f (tableIn c t) (formed-rules L t e)) refl (well-two (c .size) k t (formed-well L t e))
+      laid-holds L (remove f (tableIn c t)) t (formed-remove key order (L .lawful) form f (tableIn c t) (formed-rules L t e)) refl (formed-two L t e)
 
   -- ---- the records whose keys lie from x to y
 
-  module _ (a b : List ℕ) (x y : K) (na : Names L a x) (nb : Names L b y) (i j : ℕ) (h : RunOf (c .size) k a b t i j) where
-    rest-rows : i ≤ j → take i (recs (c .size) t) ++ drop j (recs (c .size) t) ≡ map (c .spell) (those (λ r. not (within key order x y r)) (tableIn c t .rows))
+  module _ (a b : List ℕ) (x y : K) (na : Names L a x) (nb : Names L b y) (i j : ℕ) (h : RunOf s k a b t i j) where
+    rest-rows : i ≤ j → take i (recs s t) ++ drop j (recs s t) ≡ map (c .spell) (those (λ r. not (within key order x y r)) (tableIn c t .rows))
     rest-rows ij =
-        let rs : List (List ℕ) = recs (c .size) t in
-        let up : rises k rs ≡ true = well-rises (c .size) k t (formed-well L t e) in
-        rest-is (inRun k a b) [] rs i j ij (omega (arith, h .inside, length-recs (c .size) t))
+        let rs : List (List ℕ) = recs s t in
+        let up : rises k rs ≡ true = well-rises s k t (formed-well L t e) in
+        rest-is (inRun k a b) [] rs i j ij (omega (arith, h .inside, length-recs s t))
         (λ m p. Run.below k a b rs up m (omega (arith, h .begins)))
         (λ m p q. Run.inside k a b rs up m (omega (arith, h .begins)) (omega (arith, h .ends)))
         (λ m p q. Run.above k a b rs up m (omega (arith, h .ends)) q)
@@ -98,26 +101,23 @@ module _ {R K : Type 0} {c : Codec R} {k : ℕ} {form : R → Bool} {key : R →
         ap (over (tableIn c t)) (none-go (within key order x y) (tableIn c t .rows) (sym (run-rows L a b x y na nb t e i j h) ∙ stretch-end i j (tableIn c t .rows) ji))
 
     -- the bytes after the rows of a run went
-    pub run-laid : i ≤ j → laid (take i (recs (c .size) t) ++ drop j (recs (c .size) t)) t ≡ laidOver c (remove (within key order x y) (tableIn c t)) t
+    pub run-laid : i ≤ j → laid (take i (recs s t) ++ drop j (recs s t)) t ≡ laidOver c (remove (within key order x y) (tableIn c t)) t
     unfolding laidOver
     run-laid ij = ap (λ (rs : List (List ℕ)). laid rs t) (rest-rows ij)
 
   -- ---- the record of a key: the run from the key to itself
 
   module _ (kb : List ℕ) (x : K) (n : Names L kb x) where
-    one-record : _≡_ {A = R → Bool} (within key order x x) (λ r. isEq (order x (key r)))
-    one-record d r = one-key (order x (key r)) d
-
     -- the bytes after it went
-    pub remove-laid : (i : ℕ) → spot k kb (recs (c .size) t) ≡ At i → laid (removed i (recs (c .size) t)) t ≡ laidOver c (remove (λ r. isEq (order x (key r))) (tableIn c t)) t
+    pub remove-laid : (i : ℕ) → spot k kb (recs s t) ≡ At i → laid (removed i (recs s t)) t ≡ laidOver c (remove (λ r. isEq (order x (key r))) (tableIn c t)) t
     remove-laid i p =
-        let l : i < countOf t = omega (arith, at-lt k kb (recs (c .size) t) i p, length-recs (c .size) t) in
-        let h : RunOf (c .size) k kb kb t i (suc i) = record { begins = sym (ap place p); ends = omega (arith, ap past p); inside = (omega arith, l) } in
-        run-laid kb kb x x n n i (suc i) h (omega arith) ∙ ap (λ (f : R → Bool). laidOver c (remove f (tableIn c t)) t) one-record
+        let l : i < countOf t = omega (arith, at-lt k kb (recs s t) i p, length-recs s t) in
+        let h : RunOf s k kb kb t i (suc i) = record { begins = sym (ap place p); ends = omega (arith, ap past p); inside = (omega arith, l) } in
+        run-laid kb kb x x n n i (suc i) h (omega arith) ∙ ap (λ (f : R → Bool). laidOver c (remove f (tableIn c t)) t) (within-one key order x)
 
     -- where there is none, nothing goes
-    pub remove-gap : (i : ℕ) → spot k kb (recs (c .size) t) ≡ Gap i → remove (λ r. isEq (order x (key r))) (tableIn c t) ≡ tableIn c t
+    pub remove-gap : (i : ℕ) → spot k kb (recs s t) ≡ Gap i → remove (λ r. isEq (order x (key r))) (tableIn c t) ≡ tableIn c t
     remove-gap i p =
-        let l : i ≤ countOf t = omega (arith, gap-le k kb (recs (c .size) t) i p, length-recs (c .size) t) in
-        let h : RunOf (c .size) k kb kb t i i = record { begins = sym (ap place p); ends = omega (arith, ap past p); inside = (l, l) } in
-        ap (λ (f : R → Bool). remove f (tableIn c t)) (sym one-record) ∙ run-empty kb kb x x n n i i h (omega arith)
+        let l : i ≤ countOf t = omega (arith, gap-le k kb (recs s t) i p, length-recs s t) in
+        let h : RunOf s k kb kb t i i = record { begins = sym (ap place p); ends = omega (arith, ap past p); inside = (l, l) } in
+        ap (λ (f : R → Bool). remove f (tableIn c t)) (sym (within-one key order x)) ∙ run-empty kb kb x x n n i i h (omega arith)

@@ -7,13 +7,13 @@ use mathlib.Core.Path.{_≡_, sym, ap, _∙_}
 use mathlib.Core.Bool.{Bool, true, not, _&&_, and-comm}
 use mathlib.Core.List.{List}
 use native.Mathlib.Omega.{arith}
-use lib.Dec.{leb, isLe}
+use lib.Dec.{isEq, leb, isLe}
 use borrow.Author.Tests.{leb-true, le-leb, lt-leb}
 use Rattle.core.specs.Numbers.{lastLsn, lastPage}
 use Rattle.core.specs.Orders.{next, up, down, bytes, both, logLsn, logPageLsn, sidPage, isLt}
 use Rattle.core.proofs.OrderLaws.{Lawful, equal, lt≢eq, gt≢lt, lt-up, up-lawful, bytes-lawful}
 use Rattle.rules.specs.Lists.{first, those, any, isSome}
-use Rattle.rules.specs.Records.{Id, Commit, Range, commitKey, checkpointKey, entryKey, presentKey}
+use Rattle.rules.specs.Records.{Id, Present, Commit, Range, commitKey, checkpointKey, entryKey, presentKey}
 use Rattle.rules.specs.Forms.{commitForm, checkpointForm, entryForm, presentForm}
 use Rattle.rules.specs.Tables.{sameId, latest, checkpointAt}
 use Rattle.rules.specs.Walk.{inRange}
@@ -24,10 +24,10 @@ use Rattle.rules.proofs.Facts.{same-id, id-same, entry-in, in-entry}
 use Rattle.table.specs.Records.{spot, place}
 use Rattle.table.specs.Table.{recs}
 use Rattle.table.specs.Run.{RunOf}
-use Rattle.layout.specs.Records.{commitBytes, checkpointBytes, entryBytes, presentBytes}
 use Rattle.layout.specs.Tables.{commitsIn, checkpointsIn, indexIn, presenceIn, commitsOk, checkpointsOk, indexOk, presenceOk}
 use Rattle.rows.specs.Lookups.{nth, stretch, onlyIf, within}
 use Rattle.rows.proofs.Finds.{Names, FromOn, first-place, run-rows}
+use Rattle.rows.proofs.Removals.{within-one}
 use Rattle.rows.proofs.Tables.{commits, checkpoints, index, presence, commit-ok, present-ok}
 
 -- ---- a pair of which the first part is given
@@ -112,24 +112,24 @@ unfolding lastPage
 page-top n h = omega arith
 
 -- a log's latest commit is at the place of its last LSN, if the record there is the log's
-pub latest-at : (t : List ℕ) → commitsOk t ≡ true → (log : Id) (kb : List ℕ) → Names commits kb (log, lastLsn) → (i : ℕ) → i ≡ place (spot 25 kb (recs (commitBytes .size) t))
+pub latest-at : (t : List ℕ) → commitsOk t ≡ true → (log : Id) (kb : List ℕ) → Names commits kb (log, lastLsn) → (i : ℕ) → i ≡ place (spot 25 kb (recs 722 t))
     → latest (commitsIn t) log ≡ onlyIf (λ c. sameId log (c .log)) (nth i (commitsIn t .rows))
 latest-at t e log kb n i p =
     first-place commits kb (log, lastLsn) n t e (λ c. sameId log (c .log)) (all-on commitKey commitForm log lastLsn (λ c f. lsn-top (c .lsn) (commit-ok c f .1))) i p
 
 -- the highest checkpoint at or below an LSN is at the place of that LSN
-pub checkpoint-at : (t : List ℕ) → checkpointsOk t ≡ true → (log : Id) (lsn : ℕ) (kb : List ℕ) → Names checkpoints kb (log, lsn) → (i : ℕ) → i ≡ place (spot 25 kb (recs (checkpointBytes .size) t))
+pub checkpoint-at : (t : List ℕ) → checkpointsOk t ≡ true → (log : Id) (lsn : ℕ) (kb : List ℕ) → Names checkpoints kb (log, lsn) → (i : ℕ) → i ≡ place (spot 25 kb (recs 25 t))
     → checkpointAt (checkpointsIn t) log lsn ≡ onlyIf (λ k. sameId log (k .log) && leb (k .lsn) lsn) (nth i (checkpointsIn t .rows))
 checkpoint-at t e log lsn kb n i p =
     first-place checkpoints kb (log, lsn) n t e (λ k. sameId log (k .log) && leb (k .lsn) lsn) (below-on checkpointKey checkpointForm log lsn) i p
 
 -- the entry of a page in a range is at the place of the range's last LSN
-pub entry-at : (t : List ℕ) → indexOk t ≡ true → (r : Range) (page : ℕ) (kb : List ℕ) → Names index kb (r .log, (page, r .end)) → (i : ℕ) → i ≡ place (spot 29 kb (recs (entryBytes .size) t))
+pub entry-at : (t : List ℕ) → indexOk t ≡ true → (r : Range) (page : ℕ) (kb : List ℕ) → Names index kb (r .log, (page, r .end)) → (i : ℕ) → i ≡ place (spot 29 kb (recs 29 t))
     → first (entryIn r page) (indexIn t .rows) ≡ onlyIf (entryIn r page) (nth i (indexIn t .rows))
 entry-at t e r page kb n i p = first-place index kb (r .log, (page, r .end)) n t e (entryIn r page) (entry-on r page) i p
 
 -- a segment has a page present where the record at the place of the last page is the segment's
-pub present-at : (t : List ℕ) → presenceOk t ≡ true → (sid : Id) (kb : List ℕ) → Names presence kb (sid, lastPage) → (i : ℕ) → i ≡ place (spot 21 kb (recs (presentBytes .size) t))
+pub present-at : (t : List ℕ) → presenceOk t ≡ true → (sid : Id) (kb : List ℕ) → Names presence kb (sid, lastPage) → (i : ℕ) → i ≡ place (spot 21 kb (recs 21 t))
     → any (λ p. sameId sid (p .sid)) (presenceIn t .rows) ≡ isSome (onlyIf (λ p. sameId sid (p .sid)) (nth i (presenceIn t .rows)))
 present-at t e sid kb n i p =
     first-any (λ p. sameId sid (p .sid)) (presenceIn t .rows)
@@ -140,7 +140,7 @@ range-is : (r : Range) → within commitKey logLsn (r .log, r .end) (r .log, r .
 unfolding inRange
 range-is r d c = within-is commitKey commitForm (r .log) (r .end) (r .start) c d
 
-pub range-run : (t : List ℕ) → commitsOk t ≡ true → (r : Range) (a b : List ℕ) → Names commits a (r .log, r .end) → Names commits b (r .log, r .start) → (i j : ℕ) → RunOf (commitBytes .size) 25 a b t i j
+pub range-run : (t : List ℕ) → commitsOk t ≡ true → (r : Range) (a b : List ℕ) → Names commits a (r .log, r .end) → Names commits b (r .log, r .start) → (i j : ℕ) → RunOf 722 25 a b t i j
     → stretch i j (commitsIn t .rows) ≡ those (inRange r) (commitsIn t .rows)
 range-run t e r a b na nb i j h =
     run-rows commits a b (r .log, r .end) (r .log, r .start) na nb t e i j h ∙ ap (λ (f : Commit → Bool). those f (commitsIn t .rows)) (range-is r)
@@ -148,3 +148,7 @@ range-run t e r a b na nb i j h =
 -- the pages of a segment from a to b are the run from b to a
 pub pages-are : (sid : Id) (a b : ℕ) → within presentKey sidPage (sid, b) (sid, a) ≡ presentIn sid a b
 pages-are sid a b d p = within-is presentKey presentForm sid b a p d
+
+-- one page is the record of its key
+pub page-is : (sid : Id) (page : ℕ) → _≡_ {A = Present → Bool} (λ p. isEq (sidPage (sid, page) (presentKey p))) (presentIn sid page page)
+page-is sid page = sym (within-one presentKey sidPage (sid, page)) ∙ pages-are sid page page

@@ -19,7 +19,7 @@ use Rattle.layout.specs.Records.{volumeOf, volumeParts, tagOf, tagParts, checkp
 use Rattle.layout.proofs.FormHolds.{bytes-held, lsn-bound, page-bound, volume-held, tag-held, commit-held, checkpoint-held, entry-held, present-held}
 use Rattle.rows.proofs.Rows.{Layout}
 use Rattle.rows.proofs.Finds.{Names}
-use Rattle.rows.proofs.KeyOrders.{KeyOrder, Fronted, raw-order, number-order, complement-order, padded-order, reserved-order, pair-order, pair-front, whole-front, front-names, front-layout}
+use Rattle.rows.proofs.KeyOrders.{KeyOrder, Fronted, raw-order, number-order, complement-order, padded-order, reserved-order, pair-order, pair-front, whole-front, front-names, own-names, front-layout}
 
 -- ---- the keys
 
@@ -148,27 +148,27 @@ present-size = refl
 
 -- ---- the layouts
 
-pub volumes : Layout volumeBytes 17 volumeForm volumeKey bytes
-volumes = front-layout volume-front id-order bytes-lawful (omega (arith, volume-size)) (omega (arith, volume-size)) volume-held
+pub volumes : Layout volumeBytes 117 17 volumeForm volumeKey bytes
+volumes = front-layout volume-front id-order bytes-lawful 117 volume-size (omega arith) (omega arith) volume-held
 
-pub tags : Layout tagBytes 34 tagForm tagKey bytes
-tags = front-layout tag-front name-order bytes-lawful (omega (arith, tag-size)) (omega (arith, tag-size)) tag-held
+pub tags : Layout tagBytes 50 34 tagForm tagKey bytes
+tags = front-layout tag-front name-order bytes-lawful 50 tag-size (omega arith) (omega arith) tag-held
 
-pub commits : Layout commitBytes 25 commitForm commitKey logLsn
+pub commits : Layout commitBytes 722 25 commitForm commitKey logLsn
 unfolding logLsnBytes
-commits = front-layout commit-front log-lsn-order logLsn-lawful (omega (arith, commit-size)) (omega (arith, commit-size)) commit-held
+commits = front-layout commit-front log-lsn-order logLsn-lawful 722 commit-size (omega arith) (omega arith) commit-held
 
-pub checkpoints : Layout checkpointBytes 25 checkpointForm checkpointKey logLsn
+pub checkpoints : Layout checkpointBytes 25 25 checkpointForm checkpointKey logLsn
 unfolding logLsnBytes
-checkpoints = front-layout checkpoint-front log-lsn-order logLsn-lawful (omega (arith, checkpoint-size)) (omega (arith, checkpoint-size)) checkpoint-held
+checkpoints = front-layout checkpoint-front log-lsn-order logLsn-lawful 25 checkpoint-size (omega arith) (omega arith) checkpoint-held
 
-pub index : Layout entryBytes 29 entryForm entryKey logPageLsn
+pub index : Layout entryBytes 29 29 entryForm entryKey logPageLsn
 unfolding logPageLsnBytes
-index = front-layout entry-front log-page-lsn-order logPageLsn-lawful (omega (arith, entry-size)) (omega (arith, entry-size)) entry-held
+index = front-layout entry-front log-page-lsn-order logPageLsn-lawful 29 entry-size (omega arith) (omega arith) entry-held
 
-pub presence : Layout presentBytes 21 presentForm presentKey sidPage
+pub presence : Layout presentBytes 21 21 presentForm presentKey sidPage
 unfolding sidPageBytes
-presence = front-layout present-front sid-page-order sidPage-lawful (omega (arith, present-size)) (omega (arith, present-size)) present-held
+presence = front-layout present-front sid-page-order sidPage-lawful 21 present-size (omega arith) (omega arith) present-held
 
 -- ---- bytes that begin with a key's bytes name it
 
@@ -194,3 +194,27 @@ module _ (kb : List ℕ) where
   pub present-names : (x : SidPage) → OkSidPage x → part 0 21 kb ≡ sidPageBytes .spell x → Names presence kb x
   unfolding sidPageBytes
   present-names x h e = front-names present-front sid-page-order kb x h e
+
+-- and a key's bytes alone
+
+pub volume-key : (vid : Id) → OkId vid → Names volumes (0 ∷ vid) vid
+volume-key vid h = own-names volume-front id-order vid h
+
+pub tag-key : (name : Name) → OkName name → Names tags (reserved (padded 32) .spell name) name
+tag-key name h = own-names tag-front name-order name h
+
+pub commit-key : (x : LogLsn) → OkLogLsn x → Names commits (logLsnBytes .spell x) x
+unfolding logLsnBytes
+commit-key x h = own-names commit-front log-lsn-order x h
+
+pub checkpoint-key : (x : LogLsn) → OkLogLsn x → Names checkpoints (logLsnBytes .spell x) x
+unfolding logLsnBytes
+checkpoint-key x h = own-names checkpoint-front log-lsn-order x h
+
+pub entry-key : (x : LogPageLsn) → OkLogPageLsn x → Names index (logPageLsnBytes .spell x) x
+unfolding logPageLsnBytes
+entry-key x h = own-names entry-front log-page-lsn-order x h
+
+pub present-key : (x : SidPage) → OkSidPage x → Names presence (sidPageBytes .spell x) x
+unfolding sidPageBytes
+present-key x h = own-names present-front sid-page-order x h

@@ -7,6 +7,8 @@ use lib.Dec.{isLe}
 use lib.ListN.{take, drop}
 use Rattle.core.specs.Orders.{isLt}
 use Rattle.rules.specs.Lists.{first}
+use Rattle.table.specs.declared.Spot.{Spot}
+use Rattle.table.specs.declared.Spot.the-variants.{At, Gap}
 
 -- record i, if there is one
 abbrev pub nth : {A : Type 0} → ℕ → List A → Option A
@@ -31,3 +33,8 @@ module _ {R K : Type 0} (key : R → K) (order : K → K → Ordering) where
   -- a record's key is not below x and not above y
   abbrev pub within : K → K → R → Bool
   within x y r = isLe (order x (key r)) && not (isLt (order y (key r)))
+
+-- the record at a spot; in a gap there is none
+abbrev pub atSpot : {A : Type 0} → Spot → List A → Option A
+atSpot (At i) l = nth i l
+atSpot (Gap i) l = none

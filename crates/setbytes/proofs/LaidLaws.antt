@@ -1,12 +1,12 @@
 -- A set by value and its windows determine each other: the set that windows make shows them, and is in normal form exactly as they are. Assumes nothing.
 use Prim.Native.Nat.{ℕ, _+_, _-_, _≤_, _<_}
-use mathlib.Core.Path.{_≡_, refl, sym, ap, ap₂, _∙_, subst}
+use mathlib.Core.Path.{_≡_, refl, sym, ap, _∙_}
 use mathlib.Core.Bool.{Bool, true, false, not, _&&_}
-use mathlib.Core.List.{List, [], _∷_, _++_}
+use mathlib.Core.List.{_++_}
 use native.Mathlib.Omega.{arith}
 use borrow.Author.Tests.{leb-true, le-leb, eq-eqb}
 use lib.Dec.{eqb, leb}
-use lib.ListN.{length, take, drop, getD, replicate, length-append, length-replicate, take-append-drop}
+use lib.ListN.{length, drop, replicate, length-append, length-replicate, length-take}
 use lib.Seq.{take-at, drop-at}
 use Rattle.pageset.specs.declared.PageSet.{PageSet}
 use Rattle.pageset.specs.Sets.{holds, rising, windowForms, normalForm, shown, zeroWindow, blank, normal}
@@ -63,8 +63,8 @@ module _ (s : PageSet) (e : normal s ≡ true) where
       let n = shown-length s tidy in
       tidy-known (setLaid (shown s)) s (laid-tidy (shown s) (omega (arith, tidy .short))) tidy (says-laid (shown s))
 
-  -- its array is what it shows, and zeros
-  pub shown-array : s .windows ≡ shown s ++ replicate (32 - length (shown s)) zeroWindow
-  shown-array =
-      sym (take-append-drop (s .len) (s .windows))
-      ∙ ap (λ (l : Pages). shown s ++ l) (tidy .rest ∙ ap (λ (n : ℕ). replicate (32 - n) zeroWindow) (sym (shown-length s tidy)))
+-- a set that is laid out counts at most as many windows as there are
+pub laid-few : (s : PageSet) → setLaid (shown s) ≡ s → length (s .windows) ≡ 32 → s .len ≤ 32
+laid-few s e l =
+    let n : length (shown s) ≡ s .len = ap (λ (t : PageSet). t .len) e in
+    omega (arith, length-take (s .len) (s .windows))

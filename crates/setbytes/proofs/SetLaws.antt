@@ -5,6 +5,7 @@ use mathlib.Core.Path.{_≡_, refl, sym, ap, ap₂, _∙_}
 use mathlib.Core.Bool.{Bool, true, false, not, _&&_}
 use mathlib.Core.List.{List, [], _∷_, _++_, map}
 use mathlib.Core.Option.{Option, none, some}
+use mathlib.Core.Logic.{_⊎_, inl, inr}
 use native.Mathlib.Omega.{arith}
 use native.Mathlib.Nat.{div-one}
 use borrow.Author.Tests.{le-leb, lt-leb}
@@ -20,14 +21,14 @@ use Rattle.octets.proofs.Places as P
 use Rattle.table.specs.Table.{runs}
 use Rattle.pageset.specs.declared.Window.{Window}
 use Rattle.pageset.specs.declared.PageSet.{PageSet}
-use Rattle.pageset.specs.Sets.{bit, maskAt, holds, rising, windowForms, normalForm, shown, member, zeroWindow, normal}
+use Rattle.pageset.specs.Sets.{bit, maskAt, holds, rising, windowForms, normalForm, shown, member, zeroWindow}
 use Rattle.pageset.specs.Counts.{lowest}
-use Rattle.pageset.proofs.FormLaws.{and-fst, and-snd, and-left, and-right, Rises, rises-fact, Normal, normal-fact, shown-length}
-use Rattle.pageset.proofs.WindowLaws.{mask-nil, mask-same, mask-below}
+use Rattle.pageset.proofs.FormLaws.{and-fst, and-snd, and-left, and-right, Rises, rises-fact, Normal, normal-fact, clash}
+use Rattle.pageset.proofs.WindowLaws.{lt-or, mask-nil, mask-same, mask-below}
 use Rattle.pageset.proofs.BitLaws.{bit-none}
 use Rattle.pageset.proofs.TestLaws.{inOrder, order-low, order-high, order-empty, order-step, order-end}
 use Rattle.pageset.proofs.WalkLaws.{rises-at}
-use Rattle.pageset.proofs.EdgeLaws.{none-lowest, first-small, first-lowest}
+use Rattle.pageset.proofs.EdgeLaws.{none-lowest, first-small, first-in, first-lowest}
 use Rattle.rules.specs.Records.{Pages}
 use Rattle.rules.specs.Pages.{firstPage}
 use Rattle.rules.proofs.PageCounts.{first-page}
@@ -37,7 +38,7 @@ use Rattle.layout.proofs.HoldLaws.{in-form}
 use Rattle.setbytes.specs.Laid.{windowsAt, setLaid}
 use Rattle.setbytes.proofs.ListLaws.{length-read, read-nth, list-at, list-asked, spell-array}
 use Rattle.setbytes.proofs.WindowLaws.{window-at, window-steady, window-free, window-long, window-zero}
-use Rattle.setbytes.proofs.LaidLaws.{says-laid, laid-normal, shown-array}
+use Rattle.setbytes.proofs.LaidLaws.{says-laid, laid-normal}
 
 -- ---- the windows at a place
 
@@ -189,34 +190,52 @@ module _ (s : List ℕ) (at : ℕ) (h : at + 385 ≤ length s) where
 
 -- ---- the first page
 
+module _ (ws : Pages) (f : normalForm ws ≡ true) where
+  abbrev made : PageSet
+  made = setLaid ws
+
+  its : Normal made
+  its = normal-fact made (laid-normal ws f)
+
+  lowest-is : lowest (member made) (2 ^ 32) ≡ firstPage ws
+  lowest-is = ap (λ (vs : Pages). lowest (holds vs) (2 ^ 32)) (says-laid ws) ∙ sym (first-page ws f)
+
+  -- it is not page 0
+  pub first-counts : (p : ℕ) → some p ≡ firstPage ws → 0 < p
+  first-counts p e = go (lt-or 0 (length ws)) p (e ∙ sym lowest-is)
+    where
+      positive : (p : ℕ) → member made p ≡ true → 0 < p
+      positive zero m = clash (member made 0) m (its .no-zero)
+      positive (suc p) m = omega arith
+
+      go : (0 < length ws) ⊎ (length ws ≤ 0) → (p : ℕ) → some p ≡ lowest (member made) (2 ^ 32) → 0 < p
+      go (inl h) p e =
+          let q : ℕ = getD (made .windows) 0 zeroWindow .index * 64 + trailingZeros 64 (getD (made .windows) 0 zeroWindow .mask) in
+          let z : 0 < q = positive q (first-in made its h) in
+          let l : some q ≡ lowest (member made) (2 ^ 32) = first-lowest made its h in
+          let r : p ≡ q = cc in
+          omega arith
+      go (inr h) p e = let q = none-lowest made its (omega arith) in absurd (let z : _≡_ {A = ℕ} 0 1 = cc in omega arith)
+
 module _ (s : List ℕ) (at : ℕ) (h : at + 385 ≤ length s) (f : inForm setBytes normalForm (part at 385 s) ≡ true) where
   abbrev windows : Pages
   windows = setBytes .read (part at 385 s)
 
-  abbrev made : PageSet
-  made = setLaid windows
-
   in-normal : normalForm windows ≡ true
   in-normal = in-form setBytes normalForm (part at 385 s) f .1
-
-  its : Normal made
-  its = normal-fact made (laid-normal windows in-normal)
-
-  lowest-is : lowest (member made) (2 ^ 32) ≡ firstPage windows
-  lowest-is = ap (λ (ws : Pages). lowest (holds ws) (2 ^ 32)) (says-laid windows) ∙ sym (first-page windows in-normal)
 
   how-many : length windows ≡ min (be (part at 1 s)) 32
   how-many = ap length (set-at s at h (min (be (part at 1 s)) 32) refl) ∙ length-windows (min (be (part at 1 s)) 32) (at + 1) s
 
   pub first-none : be (part at 1 s) ≡ 0 → none ≡ firstPage (setBytes .read (part at 385 s))
-  first-none e = none-lowest made its (omega (arith, how-many)) ∙ lowest-is
+  first-none e = none-lowest (made windows in-normal) (its windows in-normal) (omega (arith, how-many)) ∙ lowest-is windows in-normal
 
   -- the first window, as the code reads it
   module _ (n : be (part at 1 s) ≡ 0 → ⊥) (i m : ℕ) (p : i ≡ be (part (at + 1) 4 s)) (q : m ≡ be (part (at + 5) 8 s)) where
     there-is : 0 < length windows
     there-is = omega (arith, how-many)
 
-    head-is : getD (made .windows) 0 zeroWindow ≡ record { index = i; mask = m }
+    head-is : getD (made windows in-normal .windows) 0 zeroWindow ≡ record { index = i; mask = m }
     head-is =
         let z : at + 1 + 0 * 12 ≡ at + 1 = omega arith in
         let y : at + 1 + 4 ≡ at + 5 = omega arith in
@@ -229,26 +248,24 @@ module _ (s : List ℕ) (at : ℕ) (h : at + 385 ≤ length s) (f : inForm setBy
 
     -- its index and its lowest bit are within their limits
     pub first-within : (i < 67108864) × (trailingZeros 64 m < 64)
-    first-within = (rw head-is at (rises-at made its 0 there-is), rw head-is at (first-small made its there-is))
+    first-within = (rw head-is at (rises-at (made windows in-normal) (its windows in-normal) 0 there-is), rw head-is at (first-small (made windows in-normal) (its windows in-normal) there-is))
 
     -- and they make the first page
     pub first-some : some (i * 64 + trailingZeros 64 m) ≡ firstPage (setBytes .read (part at 385 s))
     first-some =
-        ap {B = Option ℕ} (λ (w : Window). some (w .index * 64 + trailingZeros 64 (w .mask))) (sym head-is) ∙ first-lowest made its there-is ∙ lowest-is
+        ap {B = Option ℕ} (λ (w : Window). some (w .index * 64 + trailingZeros 64 (w .mask))) (sym head-is) ∙ first-lowest (made windows in-normal) (its windows in-normal) there-is ∙ lowest-is windows in-normal
 
 -- ---- a set written
 
 -- its count, and then its array
-pub set-stored : (at : ℕ) (x : PageSet) (s t u : List ℕ) → normal x ≡ true → at + 385 ≤ length s → t ≡ put at (bytesOf 1 (x .len)) s
+pub set-stored : (at : ℕ) (x : PageSet) (s t u : List ℕ) → setLaid (shown x) ≡ x → length (x .windows) ≡ 32 → at + 385 ≤ length s → t ≡ put at (bytesOf 1 (x .len)) s
     → u ≡ put (at + 1) (flat (windowBytes .spell) (x .windows)) t → u ≡ put at (setBytes .spell (shown x)) s
 unfolding setBytes windowBytes
-set-stored at x s t u e h p q =
-    let d = normal-fact x e .tidy in
-    let n : length (flat (windowBytes .spell) (x .windows)) ≡ 384 = F.length-flat 12 (windowBytes .spell) window-long (x .windows) ∙ ap (λ (k : ℕ). 12 * k) (d .whole) in
+set-stored at x s t u e l h p q =
+    let n : length (flat (windowBytes .spell) (x .windows)) ≡ 384 = F.length-flat 12 (windowBytes .spell) window-long (x .windows) ∙ ap (λ (k : ℕ). 12 * k) l in
     P.chain at 1 384 (bytesOf 1 (x .len)) (flat (windowBytes .spell) (x .windows)) s t u (N.length-bytesOf 1 (x .len)) n (omega arith) p q
-    ∙ ap (λ (l : List ℕ). put at l s)
-    (ap₂ (λ (k : ℕ) (ws : Pages). bytesOf 1 k ++ flat (windowBytes .spell) ws) (sym (shown-length x d)) (shown-array x e)
-    ∙ sym (spell-array windowBytes 32 zeroWindow window-zero (shown x)))
+    ∙ ap (λ (y : PageSet). put at (bytesOf 1 (y .len) ++ flat (windowBytes .spell) (y .windows)) s) (sym e)
+    ∙ ap (λ (l : List ℕ). put at l s) (sym (spell-array windowBytes 32 zeroWindow window-zero (shown x)))
 
 -- ---- a set read
 

@@ -18,7 +18,7 @@ ghost use lib.ListN.{length, replicate};
 ghost use Rattle.octets.specs.Bytes.{be, part, put};
 ghost use Rattle.octets.specs.Flat.{flat};
 ghost use Rattle.core.specs.Says.{maybePageSays};
-ghost use Rattle.pageset.specs.Sets.{shown, holds, rising, windowForms, normalForm, normal, zeroWindow};
+ghost use Rattle.pageset.specs.Sets.{shown, holds, rising, windowForms, normalForm, zeroWindow};
 ghost use Rattle.rules.specs.Pages.{firstPage};
 ghost use Rattle.layout.specs.Codecs.{Codec, inForm};
 ghost use Rattle.layout.specs.Values.{windowBytes, setBytes};
@@ -151,10 +151,10 @@ fn windows_write(s: &mut [u8], at: usize, ws: [Window; 32])
     }
 }
 
-// A page set in normal form over the 385 bytes at a place.
+// A page set, zero past the windows that count, over the 385 bytes at a place.
 pub fn set_write(s: &mut [u8], at: usize, x: PageSet)
     requires { ⌜ at + 385 ≤ length (now s) ⌝ }
-    requires { ⌜ normal x ≡ true ⌝ }
+    requires { ⌜ setLaid (shown x) ≡ x ⌝ }
     ensures { λ _. ⌜ now (s .exit) ≡ put at (setBytes .spell (shown x)) (now (s .entry)) ⌝ }
 {
     let n = x.len;

@@ -1,0 +1,42 @@
+//! The calls without tables.
+use crate::tally::Tally;
+pub use harness::ops;
+use harness::ops::Record;
+use harness::{generate, original};
+
+#[path = "../../../host/tests/sample/run.rs"]
+mod run;
+
+/// What lies in a place that nothing wrote.
+const UNTOUCHED: u8 = 0xa5;
+
+/// All calls on small domains, then `n` random ones.
+pub fn compare(n: u64, seed: u64, tally: &mut Tally) {
+    generate::all_small(&mut |op, args| compare_call(op, &args, tally));
+    generate::random(n, seed, &mut |op, args| compare_call(op, &args, tally));
+}
+
+fn compare_call(op: u8, args: &[u8], tally: &mut Tally) {
+    match original::record(op, args) {
+        Some(want) => tally.count(ops::name(op), u32::from(want.code), difference(&want)),
+        None => tally.not_compared(),
+    }
+}
+
+/// How the archive's answer differs from the original's: in its number, in what was found, in what it wrote, or in what it left alone.
+fn difference(want: &Record) -> Option<String> {
+    let mut out = vec![0; want.out.len()];
+    let got = run::run(want.op, &want.args, &mut out);
+    let args = || want.args.iter().map(|b| format!("{b:02x}")).collect::<String>();
+    if (got.code, got.found) != (u32::from(want.code), u32::from(want.found)) {
+        return Some(format!("original {} {}, here {} {}; {}", want.code, want.found, got.code, got.found, args()));
+    }
+    if out != want.out {
+        return Some(format!("what is written differs; {}", args()));
+    }
+    let mut over = vec![UNTOUCHED; want.out.len()];
+    run::run(want.op, &want.args, &mut over);
+    let kept = |(&o, &w): (&u8, &u8)| if want.code == 0 { o == w || (o == UNTOUCHED && w == 0) } else { o == UNTOUCHED };
+    let all_kept = over.iter().zip(&out).all(kept);
+    (!all_kept).then(|| format!("bytes are written that are no part of the answer; {}", args()))
+}
