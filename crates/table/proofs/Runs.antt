@@ -42,17 +42,17 @@ module _ (k : ℕ) (a b : List ℕ) where
   run-whole (x ∷ rs) h = rw (h 0 (omega arith)) (ap (λ (l : List (List ℕ)). x ∷ l) (run-whole rs (λ j l. h (suc j) (suc-le-suc l))))
 
   module _ (rs : List (List ℕ)) (r : rises k rs ≡ true) where
-    below : (j : ℕ) → j < place (spot k a rs) → inRun k a b (getD rs j []) ≡ false
+    pub below : (j : ℕ) → j < place (spot k a rs) → inRun k a b (getD rs j []) ≡ false
     below j l = rw (before-place k a rs j l)
 
-    above : (j : ℕ) → past (spot k b rs) ≤ j → j < length rs → inRun k a b (getD rs j []) ≡ false
+    pub above : (j : ℕ) → past (spot k b rs) ≤ j → j < length rs → inRun k a b (getD rs j []) ≡ false
     above j l m = rw (from-past k b rs j r l m) (go (isLess (cmp k (getD rs j []) a)))
       where
         go : (c : Bool) → (not c && false) ≡ false
         go true = refl
         go false = refl
 
-    inside : (j : ℕ) → place (spot k a rs) ≤ j → j < past (spot k b rs) → inRun k a b (getD rs j []) ≡ true
+    pub inside : (j : ℕ) → place (spot k a rs) ≤ j → j < past (spot k b rs) → inRun k a b (getD rs j []) ≡ true
     inside j l m =
         let n : j < length rs = omega (arith, past-le k b rs) in
         rw (not-less (cmp k (getD rs j []) a) (from-place k a rs j r l n), not-less (cmp k b (getD rs j [])) (before-past k b rs j m))
