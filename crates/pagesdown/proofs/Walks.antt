@@ -1,6 +1,6 @@
 -- A walk over the pages of a set from the last down yields them all, last first: at its start the pages of the set are left (`walk-all`), each step takes the last of
--- the pages that are left (`step-done`), and where they are counted down to 0 none is left (`walk-end`); `all-yielded` says it of the whole walk. Where the window under way has no page left, the
--- next one down has the last of them (`left-next`).
+-- the pages that are left (`step-done`), and where they are counted down to 0 none is left (`walk-end`); `all-yielded` says it of the whole walk.
+-- Where the window under way has no page left, the next one down has the last of them (`left-next`).
 use Prim.Native.Nat.{ℕ, zero, suc, _+_, _-_, _*_, _%_, _^_, _≤_, _<_}
 use mathlib.Core.Path.{_≡_, refl, sym, ap, _∙_, subst}
 use mathlib.Core.Logic.{⊎-elim}
@@ -185,6 +185,6 @@ yielded s e h (step {n} {m} {k} {page} {w} {rest} {ps} t y) =
     let left = subst (λ (i : ℕ). Walking s m rest i) less (d .1) in
     ap (λ (qs : List ℕ). page ∷ qs) (yielded s e {k = k} left y) ∙ sym (ap reverse (d .0) ∙ reverse-append l (page ∷ []))
 
--- as many steps as a set has pages yield its pages, the last first
+-- as many steps as a set has pages, from its last window on, yield its pages, the last first
 pub all-yielded : (s : PageSet) → normal s ≡ true → (ps : List ℕ) → Yields (s .windows) (s .len) zeroWindow (count (member s) (2 ^ 32)) ps → ps ≡ reverse (pagesIn (shown s))
 all-yielded s e ps y = yielded s e (walk-start s e (count (member s) (2 ^ 32)) refl) y ∙ ap reverse (walk-all s e)
