@@ -1,20 +1,17 @@
--- What a lookup among tags answers: the spot of a name in bytes t, its key's place, where the tag is that the rules find.
+-- What a lookup among tags answers.
 use Prim.Native.Nat.{ℕ}
-use mathlib.Core.Path.{_≡_}
 use mathlib.Core.List.{List}
-use Rattle.table.specs.Records.{spot}
-use Rattle.table.specs.Table.{recs}
+use Rattle.core.specs.Orders.{bytes}
 use Rattle.table.specs.declared.Spot.{Spot}
-use Rattle.rules.specs.Records.{Name}
-use Rattle.rules.specs.Tables.{getTag}
+use Rattle.rules.specs.Records.{Name, tagKey}
 use Rattle.layout.specs.Codecs.{Codec, reserved, padded}
-use Rattle.layout.specs.Tables.{tagsIn}
-use Rattle.rows.specs.Lookups.{atSpot}
+use Rattle.layout.specs.Records.{tagBytes}
+use Rattle.rows.specs.Lookups.{FoundAt}
 
 -- a name as a key: behind a reserved byte, zero past its length, and its length
 abbrev pub keyBytes : Codec Name
 keyBytes = reserved (padded 32)
 
-pub record Found (t : List ℕ) (name : Name) (o : Spot) : Type 0 where
-  pub place : o ≡ spot 34 (keyBytes .spell name) (recs 50 t)
-  pub says : atSpot o (tagsIn t .rows) ≡ getTag (tagsIn t) name
+-- the spot of a name in bytes t: the place of its key, where the tag is that the rules find
+abbrev pub Found : List ℕ → Name → Spot → Type 0
+Found t name o = FoundAt tagKey bytes tagBytes 50 34 (keyBytes .spell name) name t o
