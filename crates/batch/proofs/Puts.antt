@@ -134,6 +134,11 @@ pub news-append : (k : ℕ) (a b l : List (List ℕ)) → news k (a ++ b) l ≡ 
 news-append k [] b l = omega arith
 news-append k (r ∷ a) b l = omega (arith, news-append k a b l, ap (lacks k r) (append-assoc a b l))
 
+-- of a batch in two parts, those of each
+pub fresh-append : (k : ℕ) (a b l : List (List ℕ)) → fresh k (a ++ b) l ≡ fresh k a l + fresh k b l
+fresh-append k [] b l = omega arith
+fresh-append k (r ∷ a) b l = omega (arith, fresh-append k a b l)
+
 -- the law of room: the records after are those held plus the distinct new keys
 pub length-putAll : (k : ℕ) (rs l : List (List ℕ)) → rises k l ≡ true → length (putAll k rs l) ≡ length l + news k rs l
 length-putAll k [] l h = omega arith

@@ -1,12 +1,13 @@
-// Many records into one table. A batch is a byte slice of n records of `stride` bytes, one after another.
+// Many records into one table, or a run of them out of it. A batch is a byte slice of n records of `stride` bytes, one after another.
 ghost use mathlib.Core.Path.{_≡_};
 ghost use mathlib.Core.Bool.{true};
 ghost use Prim.Native.Nat.{_+_, _-_, _*_, _≤_, _<_};
-ghost use lib.ListN.{length};
+ghost use mathlib.Core.List.{_++_};
+ghost use lib.ListN.{length, take, drop};
 ghost use Rattle.octets.specs.Bytes.{part};
 ghost use Rattle.octets.specs.Bytes as B;
 ghost use Rattle.table.specs.Records.{rises, spot, hits};
-ghost use Rattle.table.specs.Table.{runs, recs, laid, wellOrdered, fits};
+ghost use Rattle.table.specs.Table.{runs, countOf, recs, laid, wellOrdered, fits};
 ghost use Rattle.batch.specs.Batch.{putAll, lacks, news, fresh, lifted, Merged};
 
 // 1 where no record of t has that key, else 0.
@@ -177,4 +178,14 @@ pub fn merge(t: &mut [u8], stride: usize, klen: usize, batch: &[u8], n: usize, c
         coming = left.fresh;
     }
     octets::store16(t, 0, count + c);
+}
+
+// The records from place i up to j go, that one not included; those behind them come down in one move.
+pub fn remove_run(t: &mut [u8], stride: usize, i: usize, j: usize)
+    requires { ⌜ (i ≤ j) × (j ≤ countOf (now t)) × (2 + countOf (now t) * stride ≤ length (now t)) ⌝ }
+    ensures { λ _. ⌜ now (t .exit) ≡ laid (take i (recs stride (now (t .entry))) ++ drop j (recs stride (now (t .entry)))) (now (t .entry)) ⌝ }
+{
+    let n = table::count(t);
+    octets::move_down(t, 2 + i * stride, (j - i) * stride, (n - j) * stride);
+    octets::store16(t, 0, n - (j - i));
 }

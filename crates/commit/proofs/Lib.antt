@@ -1,3 +1,2 @@
-pub mod FrameLaws
-pub mod PlaceLaws
-pub mod JoinLaws
+pub mod SetLaws
+pub mod RecordLaws

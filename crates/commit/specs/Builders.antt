@@ -8,7 +8,7 @@ use Rattle.core.specs.Hashes.{zeroHash}
 use Rattle.pageset.specs.declared.PageSet.{PageSet}
 use Rattle.pageset.specs.Says.{emptySet}
 use Rattle.commit.specs.declared.Presence.{Presence}
-use Rattle.commit.specs.declared.Presence.the-variants.{Missing, Given}
+use Rattle.commit.specs.declared.Presence.the-variants.{Missing}
 use Rattle.commit.specs.declared.Frame.{Frame}
 use Rattle.commit.specs.declared.SegmentIdx.{SegmentIdx}
 use Rattle.commit.specs.declared.Commit.{Commit}

@@ -1,4 +1,2 @@
 pub mod Builders
 pub mod Says
-pub mod Places
-pub mod Rules

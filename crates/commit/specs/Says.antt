@@ -53,9 +53,17 @@ commitSays c = record {
 abbrev pub rangeSays : SegmentRange → Part
 rangeSays r = record { sid = r .sid; start = r .start; end = r .end; pages = shown (r .pages) }
 
+-- what stands where there is no range
+abbrev pub zeroRange : SegmentRange
+zeroRange = record { sid = replicate 16 0; start = 0; end = 0; pages = emptySet }
+
 -- no range, under a number
 abbrev pub noRange : ℕ → RangeAnswer
-noRange n = record { code = n; found = Missing; range = record { sid = replicate 16 0; start = 0; end = 0; pages = emptySet } }
+noRange n = record { code = n; found = Missing; range = zeroRange }
+
+-- a range, under 0
+abbrev pub foundRange : SegmentRange → RangeAnswer
+foundRange r = record { code = 0; found = Given; range = r }
 
 -- the range says that, and its set is in normal form
 pub record IsRange (f : Part) (r : SegmentRange) : Type 0 where

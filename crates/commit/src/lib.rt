@@ -1,8 +1,4 @@
-// Commits and segments by value, with builders that change one field and keep all others.
-// `frames` answers for a segment's frames, `ranges` joins runs of a segment's bytes.
-pub mod frames;
-pub mod ranges;
-
+// Commits and segments by value, with builders that change one field and keep all others; and runs of a segment's bytes.
 use core::commit_hash;
 use core::commit_hash::CommitHash;
 use core::id::LogId;
@@ -14,7 +10,7 @@ use pageset::PageSet;
 use pageset::sets;
 ghost use mathlib.Core.Path.{_≡_};
 ghost use Rattle.core.specs.Hashes.{zeroHash};
-ghost use Rattle.commit.specs.Says.{noRange};
+ghost use Rattle.commit.specs.Says.{zeroRange, noRange, foundRange};
 ghost use Rattle.commit.specs.Builders.{zeroFrames, zeroLsns, zeroSegment, newSegment, withFrames, newCommit, withLog, withLsn, withHash, withSegment, withCheckpoints};
 
 // Whether what stands beside it counts. Where it is missing, zeros stand there.
@@ -119,20 +115,40 @@ impl SegmentIdx {
     }
 }
 
+impl SegmentRange {
+    // What stands where there is no range.
+    pub fn zero() -> SegmentRange
+        ensures { λ r. ⌜ r ≡ zeroRange ⌝ }
+    {
+        let pages = sets::empty();
+        SegmentRange {
+            sid: [0u8; 16],
+            start: 0,
+            end: 0,
+            pages,
+        }
+    }
+}
+
 // No range, under a number.
 pub fn no_range(code: u32) -> RangeAnswer
     ensures { λ r. ⌜ r ≡ noRange code ⌝ }
 {
-    let pages = sets::empty();
-    let range = SegmentRange {
-        sid: [0u8; 16],
-        start: 0,
-        end: 0,
-        pages,
-    };
+    let range = SegmentRange::zero();
     RangeAnswer {
         code,
         found: Presence::Missing,
+        range,
+    }
+}
+
+// A range, under 0.
+pub fn found_range(range: SegmentRange) -> RangeAnswer
+    ensures { λ r. ⌜ r ≡ foundRange range ⌝ }
+{
+    RangeAnswer {
+        code: 0,
+        found: Presence::Given,
         range,
     }
 }

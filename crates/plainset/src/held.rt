@@ -120,7 +120,7 @@ fn cut_answer(t: Tally, a: CutAnswer, common: &[u32], left: &[u32]) -> Tally {
 }
 
 // 22 where the pages of a list lie in more than 32 blocks of 64.
-fn room_code(list: &[u32]) -> u32 {
+pub fn room_code(list: &[u32]) -> u32 {
     if 32 < naive::blocks(list) { 22 } else { 0 }
 }
 
@@ -197,6 +197,18 @@ pub fn grown(h: Held, p: u32) -> Held {
     let before = h.pages;
     let pages = naive::joined(before, p);
     Held { set, pages }
+}
+
+// The set of a draw, by insertions.
+pub fn built(draws: &[u32]) -> Held {
+    let mut h = empty();
+    let mut i: usize = 0;
+    while i < draws.len() {
+        let more = grown(h, draws[i]);
+        h = more;
+        i += 1;
+    }
+    h
 }
 
 // The pages up to n.

@@ -22,7 +22,7 @@ use Rattle.rules.proofs.PageLaws.{bit-zero, rising-masked, mask-below, 
 
 -- ---- runs of numbers
 
-numbers-append : (a m n : ℕ) → numbers a (m + n) ≡ numbers a m ++ numbers (a + m) n
+pub numbers-append : (a m n : ℕ) → numbers a (m + n) ≡ numbers a m ++ numbers (a + m) n
 unfolding numbers
 numbers-append a zero n = let e : 0 + n ≡ n = omega arith in let f : a + 0 ≡ a = omega arith in rw (e, f)
 numbers-append a (suc m) n =
@@ -30,7 +30,7 @@ numbers-append a (suc m) n =
     let f : suc a + m ≡ a + suc m = omega arith in
     rw (e, ← f) (ap {B = List ℕ} (λ l. a ∷ l) (numbers-append (suc a) m n))
 
-those-same : (f g : ℕ → Bool) (a n : ℕ) → ((p : ℕ) → a ≤ p → p < a + n → f p ≡ g p) → those f (numbers a n) ≡ those g (numbers a n)
+pub those-same : (f g : ℕ → Bool) (a n : ℕ) → ((p : ℕ) → a ≤ p → p < a + n → f p ≡ g p) → those f (numbers a n) ≡ those g (numbers a n)
 unfolding those numbers
 those-same f g a zero h = refl
 those-same f g a (suc n) h =
@@ -38,7 +38,7 @@ those-same f g a (suc n) h =
     let r = those-same f g (suc a) n (λ p u v. h p (omega arith) (omega arith)) in
     cases (g a) (λ q. rw (e, q, r)) (λ q. rw (e, q, r))
 
-those-none : (f : ℕ → Bool) (a n : ℕ) → ((p : ℕ) → a ≤ p → p < a + n → f p ≡ false) → those f (numbers a n) ≡ []
+pub those-none : (f : ℕ → Bool) (a n : ℕ) → ((p : ℕ) → a ≤ p → p < a + n → f p ≡ false) → those f (numbers a n) ≡ []
 unfolding those numbers
 those-none f a zero h = refl
 those-none f a (suc n) h = rw (h a (omega arith) (omega arith)) (those-none f (suc a) n (λ p u v. h p (omega arith) (omega arith)))
@@ -95,7 +95,7 @@ pages-listed s e = listed-from 0 s (omega arith) (search (and-fst, and-snd)) (se
 
 -- ---- their number and the first
 
-snoc : (a n : ℕ) → numbers a (suc n) ≡ numbers a n ++ ((a + n) ∷ [])
+pub snoc : (a n : ℕ) → numbers a (suc n) ≡ numbers a n ++ ((a + n) ∷ [])
 unfolding numbers
 snoc a zero = let e : a + 0 ≡ a = omega arith in rw e
 snoc a (suc n) = let e : suc a + n ≡ a + suc n = omega arith in rw (← e) (ap {B = List ℕ} (λ l. a ∷ l) (snoc (suc a) n))

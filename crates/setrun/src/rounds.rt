@@ -5,18 +5,6 @@ use plainset::random;
 use plainset::tally;
 use plainset::tally::Tally;
 
-// The set of a draw, by insertions.
-fn built(draws: &[u32]) -> Held {
-    let mut h = held::empty();
-    let mut i: usize = 0;
-    while i < draws.len() {
-        let more = held::grown(h, draws[i]);
-        h = more;
-        i += 1;
-    }
-    h
-}
-
 // The numbers of the insertions that build a set; 0 is no page, and refused.
 fn building(t: Tally, draws: &[u32]) -> Tally {
     let mut sum = t;
@@ -83,8 +71,8 @@ fn round(t: Tally, seed: u64) -> Tally {
     let base = random::base(seed);
     let first = random::draws(random::pick(seed, 1), base);
     let second = random::draws(random::pick(seed, 2), base);
-    let a = built(&first);
-    let b = built(&second);
+    let a = held::built(&first);
+    let b = held::built(&second);
     let t1 = building(t, &first);
     let t2 = alone(t1, a, random::pick(seed, 3), base);
     let t3 = alone(t2, b, random::pick(seed, 4), base);

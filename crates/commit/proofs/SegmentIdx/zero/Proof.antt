@@ -1,7 +1,6 @@
 -- The segment of the empty set and of zeros. Assumes nothing.
 use borrow.Author.Needs.{needs}
 use mathlib.Core.Path.{ap, _∙_}
-use Prim.Native.Nat.{ℕ}
 use lib.ListN.{replicate}
 use Rattle.commit.specs.Builders.{newSegment}
 use Rattle.commit.proofs.SegmentIdx.zero.Statement.{statement}

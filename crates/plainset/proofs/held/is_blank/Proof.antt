@@ -1,4 +1,4 @@
--- `setrun::held::is_blank` is safe and ends. Nothing has to hold from turn to turn, since the loop's test bounds the index; the measure is how far `i` is below 32.
+-- `plainset::held::is_blank` is safe and ends. Nothing has to hold from turn to turn, since the loop's test bounds the index; the measure is how far `i` is below 32.
 use Prim.Native.Nat.{_-_}
 use native.Mathlib.Omega.{arith}
 use Rattle.plainset.proofs.held.is_blank.Statement.{statement}

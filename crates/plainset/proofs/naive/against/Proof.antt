@@ -1,4 +1,4 @@
--- `setrun::naive::against` is safe and ends. Nothing has to hold from turn to turn, since the loop's test bounds the index; the measure is how far `i` is below 256.
+-- `plainset::naive::against` is safe and ends. Nothing has to hold from turn to turn, since the loop's test bounds the index; the measure is how far `i` is below 256.
 use Prim.Native.Nat.{_-_}
 use native.Mathlib.Omega.{arith}
 use Rattle.plainset.proofs.naive.against.Statement.{statement}

@@ -1,4 +1,4 @@
--- `setrun::naive::count_within` is safe and ends. Nothing has to hold from turn to turn, since the loop's test bounds the index; the measure is what is left of `list` past `i`.
+-- `plainset::naive::count_within` is safe and ends. Nothing has to hold from turn to turn, since the loop's test bounds the index; the measure is what is left of `list` past `i`.
 use Prim.Native.Nat.{_-_}
 use native.Mathlib.Omega.{arith}
 use lib.ListN.{length}

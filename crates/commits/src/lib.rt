@@ -1,0 +1,143 @@
+// The table of commits in lent bytes: its keys, where a commit stands, and single fields of a stored commit, read where they stand.
+use core::id::LogId;
+use core::id::SegmentId;
+use layout::COMMIT;
+use layout::COMMIT_KEY;
+ghost use mathlib.Core.Path.{_≡_};
+ghost use mathlib.Core.Bool.{true};
+ghost use Prim.Native.Nat.{_+_, _*_, _<_, _≤_};
+ghost use lib.ListN.{length};
+ghost use Rattle.table.specs.Table.{countOf};
+ghost use Rattle.layout.specs.Records.{logLsnBytes};
+ghost use Rattle.layout.specs.Tables.{commitsIn, commitsOk};
+ghost use Rattle.rules.specs.Lists.{isSome};
+ghost use Rattle.rules.specs.Tables.{sameId, getCommit, latest};
+ghost use Rattle.rules.specs.Push.{isHash};
+ghost use Rattle.rules.specs.Save.{hasSid};
+ghost use Rattle.commits.specs.Places.{commitAt, PlaceOf, RunOfRange};
+
+// Where a commit stands in the table, or that there is none.
+pub enum Place {
+    At(usize),
+    Missing,
+}
+
+// The bytes of a commit's key: a reserved byte, the log, and the LSN complemented.
+pub fn commit_key(log: LogId, lsn: u64) -> [u8; 25]
+    ensures { λ r. ⌜ r ≡ logLsnBytes .spell (log, lsn) ⌝ }
+{
+    let mut key = [0u8; 25];
+    octets::store_id(&mut key, 1, log);
+    octets::store64(&mut key, 17, 18446744073709551615 - lsn);
+    key
+}
+
+// Where record i begins.
+pub fn row(t: &[u8], i: usize) -> usize
+    requires { ⌜ (commitsOk (now t) ≡ true) × (i < countOf (now t)) ⌝ }
+    ensures { λ r. ⌜ (r ≡ 2 + i * 722) × (r + 722 ≤ length (now (t .entry))) ⌝ }
+{
+    2 + i * COMMIT
+}
+
+// ---- fields of record i
+
+// Its LSN.
+pub fn lsn_at(t: &[u8], i: usize) -> u64
+    requires { ⌜ (commitsOk (now t) ≡ true) × (i < countOf (now t)) ⌝ }
+    ensures { λ r. ⌜ r ≡ commitAt (now (t .entry)) i .lsn ⌝ }
+{
+    let at = row(t, i);
+    18446744073709551615 - octets::load64(t, at + 17)
+}
+
+// Its page count.
+pub fn count_at(t: &[u8], i: usize) -> u32
+    requires { ⌜ (commitsOk (now t) ≡ true) × (i < countOf (now t)) ⌝ }
+    ensures { λ r. ⌜ r ≡ commitAt (now (t .entry)) i .count ⌝ }
+{
+    let at = row(t, i);
+    octets::load32(t, at + 25)
+}
+
+// Whether it is a commit of that log.
+pub fn log_is(t: &[u8], i: usize, log: LogId) -> bool
+    requires { ⌜ (commitsOk (now t) ≡ true) × (i < countOf (now t)) ⌝ }
+    ensures { λ r. ⌜ r ≡ sameId log (commitAt (now (t .entry)) i .log) ⌝ }
+{
+    let at = row(t, i);
+    octets::same(&log, 0, t, at + 1, 16)
+}
+
+// Whether its hash is there and is that one.
+pub fn hash_is(t: &[u8], i: usize, hash: [u8; 32]) -> bool
+    requires { ⌜ (commitsOk (now t) ≡ true) × (i < countOf (now t)) ⌝ }
+    ensures { λ r. ⌜ r ≡ isHash (commitAt (now (t .entry)) i .hash) hash ⌝ }
+{
+    let at = row(t, i);
+    if octets::load8(t, at + 29) == 0 {
+        return false;
+    }
+    octets::same(t, at + 30, &hash, 0, 32)
+}
+
+// Whether it has a segment.
+pub fn has_segment_at(t: &[u8], i: usize) -> bool
+    requires { ⌜ (commitsOk (now t) ≡ true) × (i < countOf (now t)) ⌝ }
+    ensures { λ r. ⌜ r ≡ isSome (commitAt (now (t .entry)) i .segment) ⌝ }
+{
+    let at = row(t, i);
+    octets::load8(t, at + 62) != 0
+}
+
+// Whether its segment is there and has that identifier.
+pub fn sid_is(t: &[u8], i: usize, sid: SegmentId) -> bool
+    requires { ⌜ (commitsOk (now t) ≡ true) × (i < countOf (now t)) ⌝ }
+    ensures { λ r. ⌜ r ≡ hasSid sid (commitAt (now (t .entry)) i .segment) ⌝ }
+{
+    let at = row(t, i);
+    if octets::load8(t, at + 62) == 0 {
+        return false;
+    }
+    octets::same(&sid, 0, t, at + 63, 16)
+}
+
+// ---- lookups
+
+// Where the log's commit at an LSN stands.
+pub fn find_commit(t: &[u8], log: LogId, lsn: u64) -> Place
+    requires { ⌜ commitsOk (now t) ≡ true ⌝ }
+    ensures { λ r. ⌜ PlaceOf (now (t .entry)) (getCommit (commitsIn (now (t .entry))) log lsn) r ⌝ }
+{
+    let key = commit_key(log, lsn);
+    match table::find(t, COMMIT, COMMIT_KEY, &key) {
+        table::Spot::At(i) => Place::At(i),
+        table::Spot::Gap(_) => Place::Missing,
+    }
+}
+
+// Where the log's latest commit stands: the first record at or after the key of the last LSN, if it is the log's.
+pub fn latest(t: &[u8], log: LogId) -> Place
+    requires { ⌜ commitsOk (now t) ≡ true ⌝ }
+    ensures { λ r. ⌜ PlaceOf (now (t .entry)) (latest (commitsIn (now (t .entry))) log) r ⌝ }
+{
+    let key = commit_key(log, 18446744073709551615);
+    let i = table::from_key(t, COMMIT, COMMIT_KEY, &key);
+    if i == table::count(t) {
+        return Place::Missing;
+    }
+    if !log_is(t, i, log) {
+        return Place::Missing;
+    }
+    Place::At(i)
+}
+
+// The run of the log's commits from the LSN `end` down to `start`.
+pub fn range_run(t: &[u8], log: LogId, start: u64, end: u64) -> table::Run
+    requires { ⌜ commitsOk (now t) ≡ true ⌝ }
+    ensures { λ r. ⌜ RunOfRange (now (t .entry)) (record { log = log; start = start; end = end }) (r .from) (r .to) ⌝ }
+{
+    let first = commit_key(log, end);
+    let last = commit_key(log, start);
+    table::between(t, COMMIT, COMMIT_KEY, &first, &last)
+}

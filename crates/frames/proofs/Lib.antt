@@ -1,0 +1,3 @@
+pub mod FrameLaws
+pub mod PlaceLaws
+pub mod ListLaws
