@@ -13,7 +13,7 @@ use Rattle.octets.proofs.Places as P
 use Rattle.rules.specs.Lists.{all}
 use Rattle.rules.specs.Forms.{nameLength, nameForm, idForm, tagForm}
 use Rattle.rules.proofs.TableLaws.{cases}
-use Rattle.layout.specs.Codecs.{padded, reserved, pair, spelled, inForm}
+use Rattle.layout.specs.Codecs.{padded, reserved, spelled, inForm}
 use Rattle.layout.specs.Values.{idBytes}
 use Rattle.layout.specs.Records.{tagBytes}
 use Rattle.layout.proofs.SpellLaws.{padded-steady, padded-spelled, reserved-steady}

@@ -1,11 +1,11 @@
 -- What the code makes of a name and a volume: the key's bytes and the tag's bytes, each by stores over zeros; and that the tag is in form.
-use Prim.Native.Nat.{ℕ, suc, _+_, _-_, _≤_, _<_}
+use Prim.Native.Nat.{ℕ, suc, _+_, _-_, _≤_}
 use mathlib.Core.Path.{_≡_, refl, sym, ap, ap₂, _∙_}
 use mathlib.Core.List.{List, [], _∷_, _++_, append-nil, append-assoc}
-use mathlib.Core.Bool.{Bool, true, _&&_}
+use mathlib.Core.Bool.{true}
 use native.Mathlib.Omega.{arith}
 use lib.Dec.{leb}
-use lib.ListN.{length, replicate, take, drop, length-append, length-replicate, replicate-append-replicate}
+use lib.ListN.{length, replicate, drop, length-append, length-replicate, replicate-append-replicate}
 use lib.Seq.{take-at, drop-at}
 use borrow.Author.Tests.{leb-true, eq-eqb}
 use Rattle.octets.specs.Bytes.{bytesOf, put, AreBytes, part}
@@ -13,8 +13,6 @@ use Rattle.octets.proofs.Numbers.{length-bytesOf}
 use Rattle.octets.proofs.Places.{put-all}
 use Rattle.rules.specs.Forms.{nameLength, nameForm, bytesForm, idForm, tagForm}
 use Rattle.rules.proofs.TableLaws.{and-fst, and-snd, and-both}
-use Rattle.layout.specs.Codecs.{padded, reserved}
-use Rattle.layout.specs.Values.{idBytes}
 use Rattle.layout.specs.Records.{tagOf, tagBytes}
 use Rattle.layout.proofs.PlaceLaws.{all-bytes, pair-stored, behind}
 use Rattle.tags.specs.Lookups.{keyBytes}
