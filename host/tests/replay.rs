@@ -14,11 +14,15 @@ fn the_originals_answers() {
     while !rest.is_empty() {
         let at = bytes.len() - rest.len();
         let want = Record::read(&mut rest).unwrap_or_else(|| panic!("no record at byte {at}"));
-        let mut out = vec![0; want.out.len()];
-        let got = run::run(want.op, &want.args, &mut out);
         let name = ops::name(want.op);
-        assert_eq!((got.code, got.found), (want.code.into(), want.found.into()), "{name} at byte {at}");
-        assert_eq!(out, want.out, "{name} at byte {at}");
+        // over zeros, as it was recorded, and over other bytes, which stay where nothing is written
+        for before in [0, 0xa5] {
+            let mut out = vec![before; want.out.len()];
+            let got = run::run(want.op, &want.args, &mut out);
+            assert_eq!((got.code, got.found), (want.code.into(), want.found.into()), "{name} at byte {at}");
+            assert_eq!(out, want.out_over(before), "{name} at byte {at}");
+        }
+        assert_eq!(want.out, want.out_over(0), "{name} at byte {at}: recorded where nothing is written");
         records += 1;
         of_each[usize::from(want.op)] += 1;
     }

@@ -1,4 +1,8 @@
 // The table of commits in lent bytes: its keys, where a commit stands, and single fields of a stored commit, read where they stand.
+use core::id::LogId;
+use core::id::SegmentId;
+use layout::COMMIT;
+use layout::COMMIT_KEY;
 ghost use mathlib.Core.Path.{_≡_};
 ghost use mathlib.Core.Bool.{true};
 ghost use Prim.Native.Nat.{_+_, _*_, _<_, _≤_};
@@ -19,7 +23,7 @@ pub enum Place {
 }
 
 // The bytes of a commit's key: a reserved byte, the log, and the LSN complemented.
-pub fn commit_key(log: [u8; 16], lsn: u64) -> [u8; 25]
+pub fn commit_key(log: LogId, lsn: u64) -> [u8; 25]
     ensures { λ r. ⌜ r ≡ logLsnBytes .spell (log, lsn) ⌝ }
 {
     let mut key = [0u8; 25];
@@ -33,7 +37,7 @@ pub fn row(t: &[u8], i: usize) -> usize
     requires { ⌜ (commitsOk (now t) ≡ true) × (i < countOf (now t)) ⌝ }
     ensures { λ r. ⌜ (r ≡ 2 + i * 722) × (r + 722 ≤ length (now (t .entry))) ⌝ }
 {
-    2 + i * layout::COMMIT
+    2 + i * COMMIT
 }
 
 // ---- fields of record i
@@ -57,7 +61,7 @@ pub fn count_at(t: &[u8], i: usize) -> u32
 }
 
 // Whether it is a commit of that log.
-pub fn log_is(t: &[u8], i: usize, log: [u8; 16]) -> bool
+pub fn log_is(t: &[u8], i: usize, log: LogId) -> bool
     requires { ⌜ (commitsOk (now t) ≡ true) × (i < countOf (now t)) ⌝ }
     ensures { λ r. ⌜ r ≡ sameId log (commitAt (now (t .entry)) i .log) ⌝ }
 {
@@ -87,7 +91,7 @@ pub fn has_segment_at(t: &[u8], i: usize) -> bool
 }
 
 // Whether its segment is there and has that identifier.
-pub fn sid_is(t: &[u8], i: usize, sid: [u8; 16]) -> bool
+pub fn sid_is(t: &[u8], i: usize, sid: SegmentId) -> bool
     requires { ⌜ (commitsOk (now t) ≡ true) × (i < countOf (now t)) ⌝ }
     ensures { λ r. ⌜ r ≡ hasSid sid (commitAt (now (t .entry)) i .segment) ⌝ }
 {
@@ -101,24 +105,24 @@ pub fn sid_is(t: &[u8], i: usize, sid: [u8; 16]) -> bool
 // ---- lookups
 
 // Where the log's commit at an LSN stands.
-pub fn find_commit(t: &[u8], log: [u8; 16], lsn: u64) -> Place
+pub fn find_commit(t: &[u8], log: LogId, lsn: u64) -> Place
     requires { ⌜ commitsOk (now t) ≡ true ⌝ }
     ensures { λ r. ⌜ PlaceOf (now (t .entry)) (getCommit (commitsIn (now (t .entry))) log lsn) r ⌝ }
 {
     let key = commit_key(log, lsn);
-    match table::find(t, layout::COMMIT, layout::COMMIT_KEY, &key) {
+    match table::find(t, COMMIT, COMMIT_KEY, &key) {
         table::Spot::At(i) => Place::At(i),
         table::Spot::Gap(_) => Place::Missing,
     }
 }
 
 // Where the log's latest commit stands: the first record at or after the key of the last LSN, if it is the log's.
-pub fn latest(t: &[u8], log: [u8; 16]) -> Place
+pub fn latest(t: &[u8], log: LogId) -> Place
     requires { ⌜ commitsOk (now t) ≡ true ⌝ }
     ensures { λ r. ⌜ PlaceOf (now (t .entry)) (latest (commitsIn (now (t .entry))) log) r ⌝ }
 {
     let key = commit_key(log, 18446744073709551615);
-    let i = table::from_key(t, layout::COMMIT, layout::COMMIT_KEY, &key);
+    let i = table::from_key(t, COMMIT, COMMIT_KEY, &key);
     if i == table::count(t) {
         return Place::Missing;
     }
@@ -129,11 +133,11 @@ pub fn latest(t: &[u8], log: [u8; 16]) -> Place
 }
 
 // The run of the log's commits from the LSN `end` down to `start`.
-pub fn range_run(t: &[u8], log: [u8; 16], start: u64, end: u64) -> table::Run
+pub fn range_run(t: &[u8], log: LogId, start: u64, end: u64) -> table::Run
     requires { ⌜ commitsOk (now t) ≡ true ⌝ }
     ensures { λ r. ⌜ RunOfRange (now (t .entry)) (record { log = log; start = start; end = end }) (r .from) (r .to) ⌝ }
 {
     let first = commit_key(log, end);
     let last = commit_key(log, start);
-    table::between(t, layout::COMMIT, layout::COMMIT_KEY, &first, &last)
+    table::between(t, COMMIT, COMMIT_KEY, &first, &last)
 }

@@ -80,6 +80,25 @@ impl Record {
         to.extend_from_slice(&self.out);
     }
 
+    /// How many bytes of `out`, from its front, the call writes; the others stay as they were. A refusal and nothing found write none, an
+    /// insert writes its set in both cases, and a list ends with its last item.
+    pub fn written(&self) -> usize {
+        if self.code != 0 || (self.found == 0 && self.op != SET_INSERT) {
+            return 0;
+        }
+        match self.op {
+            FRAME_LIST | FRAME_LIST_OF_4 => 4 + RANGE * u32::from_be_bytes(self.out[..4].try_into().unwrap()) as usize,
+            _ => self.out.len(),
+        }
+    }
+
+    /// What `out` holds after the call where each of its bytes was `before`.
+    pub fn out_over(&self, before: u8) -> Vec<u8> {
+        let mut out = vec![before; self.out.len()];
+        out[..self.written()].copy_from_slice(&self.out[..self.written()]);
+        out
+    }
+
     /// The record at the front of some bytes, which go on after it.
     pub fn read(from: &mut &[u8]) -> Option<Record> {
         let (&op, rest) = from.split_first()?;
