@@ -5,6 +5,7 @@ use plainset::held;
 use plainset::held::Held;
 use plainset::tally;
 use plainset::tally::Tally;
+use std::num;
 
 // A piece of a segment; the identifier differs from the others in one byte, or in none.
 fn piece(start: u64, end: u64, held: Held, at: usize) -> Piece {
@@ -29,55 +30,53 @@ fn set(kind: u64) -> Held {
     }
 }
 
-// A few pages from a to b, and others from c to d.
-fn spans(t: Tally, a: u64, b: u64, c: u64, d: u64) -> Tally {
-    joins::pair(t, piece(a, b, set(0), 16), piece(c, d, set(1), 16))
+// The number of a letter.
+fn value(letter: u8) -> u64 {
+    match letter {
+        b'0'..=b'9' => (letter - 48) as u64,
+        _ => 18446744073709551615,
+    }
 }
 
-// The same of another segment, by one byte of its identifier.
-fn apart(t: Tally, c: u64, d: u64, at: usize) -> Tally {
-    joins::pair(t, piece(0, 4, set(0), 16), piece(c, d, set(1), at))
+// The k-th number of the word at a place.
+fn number(text: &[u8], at: usize, k: usize) -> u64 {
+    let place = num::wrapping_add_usize(at, k);
+    if place < text.len() {
+        value(text[place])
+    } else {
+        0
+    }
 }
 
-// No page from a to b, and others from c to d.
-fn bare(t: Tally, a: u64, b: u64, c: u64, d: u64) -> Tally {
-    joins::pair(t, piece(a, b, set(2), 16), piece(c, d, set(1), 16))
+// Two pieces by the word at a place: the start and the end of the left, of the right, the sets of both, and the byte at which the right's identifier differs.
+fn word(t: Tally, text: &[u8], at: usize, byte: usize) -> Tally {
+    let left = piece(
+        number(text, at, 0),
+        number(text, at, 1),
+        set(number(text, at, 4)),
+        16,
+    );
+    let right = piece(
+        number(text, at, 2),
+        number(text, at, 3),
+        set(number(text, at, 5)),
+        byte,
+    );
+    joins::pair(t, left, right)
 }
 
-// Two pieces that touch, a gap, an overlap, the same bytes twice.
-fn touches(t: Tally) -> Tally {
-    let t1 = spans(t, 0, 100, 100, 150);
-    let t2 = spans(t1, 0, 100, 101, 150);
-    let t3 = spans(t2, 0, 100, 99, 150);
-    spans(t3, 0, 100, 0, 100)
-}
-
-// Touches at the ends of the numbers.
-fn ends(t: Tally) -> Tally {
-    let far = 18446744073709551615;
-    let t1 = spans(t, 0, 9, 9, far);
-    let t2 = spans(t1, far, far, 5, far);
-    spans(t2, 0, far, far, 0)
-}
-
-// Empty ranges at one place, at another's start and end, and inside it.
-fn empty(t: Tally) -> Tally {
-    let t1 = spans(t, 5, 5, 5, 5);
-    let t2 = bare(t1, 5, 5, 5, 9);
-    let t3 = bare(t2, 5, 9, 9, 9);
-    bare(spans(t3, 7, 7, 5, 9), 0, 0, 0, 0)
-}
-
-// Other segments, by the first byte, one in the middle and the last; and by none.
-fn others(t: Tally) -> Tally {
-    let t1 = apart(apart(t, 4, 9, 0), 4, 9, 7);
-    apart(apart(t1, 4, 9, 15), 4, 9, 16)
-}
-
-// Reversed ranges: 2, also of other segments.
-fn reversed(t: Tally) -> Tally {
-    let t1 = spans(spans(t, 4, 3, 3, 9), 0, 4, 4, 3);
-    apart(spans(t1, 4, 3, 4, 3), 4, 3, 0)
+// The words of a text.
+fn words(t: Tally, text: &[u8], byte: usize) -> Tally {
+    let mut sum = t;
+    let mut i: usize = 0;
+    while i < 100 {
+        if text.len() <= i {
+            return sum;
+        }
+        sum = word(sum, text, i, byte);
+        i += 7;
+    }
+    sum
 }
 
 // A page in each of n windows, from one on.
@@ -95,25 +94,28 @@ fn comb(a: u32, n: u32) -> Held {
 }
 
 // One page in each of n windows up to byte 4, and in each of m windows from a byte on.
-fn combs(t: Tally, n: u32, start: u64, b: u32, m: u32, at: usize) -> Tally {
+fn combs(t: Tally, n: u32, start: u64, b: u32, m: u32) -> Tally {
     joins::pair(
         t,
         piece(0, 4, comb(1, n), 16),
-        piece(start, 9, comb(b, m), at),
+        piece(start, 9, comb(b, m), 16),
     )
 }
 
-// Sets that have 32 windows together, and 33; which is 22 only where the ranges touch and are of one segment.
+// Sets that have 32 windows together, and 33: 22, but where the ranges do not touch.
 fn wide(t: Tally) -> Tally {
-    let t1 = combs(t, 16, 4, 1024, 16, 16);
-    let t2 = combs(t1, 16, 4, 1024, 17, 16);
-    let t3 = combs(t2, 32, 5, 2048, 1, 16);
-    let t4 = combs(t3, 32, 4, 2048, 1, 3);
-    combs(t4, 32, 4, 2, 32, 16)
+    let t1 = combs(t, 16, 4, 1024, 16);
+    let t2 = combs(t1, 16, 4, 1024, 17);
+    let t3 = combs(t2, 32, 5, 2048, 1);
+    combs(t3, 32, 4, 2, 32)
 }
 
-// All of them.
+// Two pieces that touch, a gap, an overlap, the same bytes twice; touches at the ends of the numbers; empty ranges at one place, at another's start and
+// end, and inside it; reversed ranges: 2. The same where the segments differ in the first byte, one in the middle, the last.
 pub fn all() -> Tally {
-    let t1 = empty(ends(touches(tally::none())));
-    wide(reversed(others(t1)))
+    let touching = b"044901 045901 043901 040401 044zz1 zz5z01 0zz001 555501 555921 599921 775901 ";
+    let reversed = b"434901 044301 434301 ";
+    let t1 = words(words(tally::none(), touching, 16), reversed, 16);
+    let t2 = words(words(t1, touching, 0), reversed, 7);
+    wide(words(t2, b"044901 494401 ", 15))
 }
