@@ -93,21 +93,22 @@ fn comb(a: u32, n: u32) -> Held {
     h
 }
 
-// One page in each of n windows up to byte 4, and in each of m windows from a byte on.
-fn combs(t: Tally, n: u32, start: u64, b: u32, m: u32) -> Tally {
+// One page in each of n windows up to byte 4, and in each of m windows from a byte on, of a segment that differs in one byte or in none.
+fn combs(t: Tally, n: u32, start: u64, b: u32, m: u32, at: usize) -> Tally {
     joins::pair(
         t,
         piece(0, 4, comb(1, n), 16),
-        piece(start, 9, comb(b, m), 16),
+        piece(start, 9, comb(b, m), at),
     )
 }
 
-// Sets that have 32 windows together, and 33: 22, but where the ranges do not touch.
+// Sets that have 32 windows together, and 33: 22, but where the ranges do not touch or are of two segments.
 fn wide(t: Tally) -> Tally {
-    let t1 = combs(t, 16, 4, 1024, 16);
-    let t2 = combs(t1, 16, 4, 1024, 17);
-    let t3 = combs(t2, 32, 5, 2048, 1);
-    combs(t3, 32, 4, 2, 32)
+    let t1 = combs(t, 16, 4, 1024, 16, 16);
+    let t2 = combs(t1, 16, 4, 1024, 17, 16);
+    let t3 = combs(t2, 32, 5, 2048, 1, 16);
+    let t4 = combs(t3, 32, 4, 2048, 1, 3);
+    combs(t4, 32, 4, 2, 32, 16)
 }
 
 // Two pieces that touch, a gap, an overlap, the same bytes twice; touches at the ends of the numbers; empty ranges at one place, at another's start and
