@@ -1,1 +1,3 @@
 pub mod LsnLaws
+pub mod PartLaws
+pub mod CommitLaws

@@ -1,10 +1,10 @@
 -- A commit in bytes, and the value that what it spells makes: zeros beside what is missing, and past the checkpoints that are listed.
 use Prim.Native.Nat.{ℕ, _-_}
-use mathlib.Core.Bool.{Bool, _&&_}
+use mathlib.Core.Bool.{Bool, cond, _&&_}
 use mathlib.Core.Path.{_≡_}
 use mathlib.Core.List.{List, _++_, map}
 use mathlib.Core.Option.{Option, none, some}
-use lib.Dec.{leb}
+use lib.Dec.{eqb, leb}
 use lib.ListN.{length, take, replicate}
 use Rattle.octets.specs.Bytes.{be}
 use Rattle.table.specs.Table.{runs}
@@ -59,6 +59,14 @@ keyForm k = idForm (k .0) && lsnForm (k .1)
 abbrev pub presence : {A : Type 0} → Option A → Presence
 presence none = Missing
 presence (some a) = Given
+
+-- what a flag says, and the flag that says it
+abbrev pub presenceOf : ℕ → Presence
+presenceOf n = cond (eqb n 0) Missing Given
+
+abbrev pub flagOf : Presence → ℕ
+flagOf Missing = 0
+flagOf Given = 1
 
 -- a hash, and ZERO where it is missing
 abbrev pub hashLaid : Option R.Hash → List ℕ

@@ -1,1 +1,3 @@
+pub mod fields;
 pub mod lsns;
+pub mod parts;
