@@ -41,7 +41,6 @@ use Rattle.segmentbytes.proofs.FrameLaws.{frames-long}
 use Rattle.segmentbytes.proofs.Trips.{new-laid}
 use Rattle.commitbytes.specs.Laid.{keyForm, presence, presenceOf, flagOf, hashLaid, givenSegment}
 
-
 -- ---- the key
 
 module _ (s : List ℕ) (at : ℕ) where

@@ -2,10 +2,10 @@
 use commit::no_checkpoints;
 use core::lsn::Lsn;
 use octets::all_zero;
-use octets::load64;
 use octets::load8;
-use octets::store64;
+use octets::load64;
 use octets::store8;
+use octets::store64;
 use setbytes::count_read;
 ghost use mathlib.Core.Path.{_≡_};
 ghost use mathlib.Core.List.{map};

@@ -1,21 +1,25 @@
+-- The flag of the segment says so. Assumes nothing.
+use mathlib.Core.Path.{sym, ap, _∙_}
 use borrow.Author.Needs.{needs}
+use Rattle.rules.specs.Records.{Commit}
+use Rattle.layout.specs.Values.{windowBytes, setBytes, frameBytes, framesBytes, segmentBytes}
+use Rattle.commitbytes.specs.Laid.{presence}
+use Rattle.commitbytes.proofs.PartLaws.{flag-says}
+use Rattle.commitbytes.proofs.CommitLaws.{commit-at}
 use Rattle.commitbytes.proofs.fields.commit_has_segment.Statement.{statement}
 use Rattle.commitbytes.proofs.fields.commit_has_segment.Tie as tie
-use Rattle.commitbytes.proofs.fields.commit_has_segment.Reads as reads
-use Rattle.commitbytes.proofs.fields.commit_has_segment.Lts as lts
-use Rattle.commitbytes.proofs.parts.flag_read.Reads as flag-read-reads
 
--- src/fields.rt:87:18
 add-flag-read : tie.Need-add-flag-read
 add-flag-read c = search needs
 
--- src/fields.rt:87:5
 flag-read-requires : tie.Need-flag-read-requires
 flag-read-requires c κs = search needs
 
--- src/fields.rt:83:1
 returns : tie.Need-returns
-returns c = ?
+unfolding segmentBytes setBytes windowBytes framesBytes frameBytes
+returns c =
+    let a = c .before .before .args in
+    c .flag-read .ensures ∙ flag-says segmentBytes (a .s .now) _ ∙ sym (ap (λ (c : Commit). presence (c .segment)) (commit-at (a .s .now) (a .at)))
 
 pub commit-has-segment-spec : {M : Type 1} → statement M
 commit-has-segment-spec = tie.close (tie.spec add-flag-read flag-read-requires returns)

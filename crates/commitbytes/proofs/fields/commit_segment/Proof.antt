@@ -1,39 +1,35 @@
+-- The segment stands behind its flag. Assumes nothing.
+use mathlib.Core.Path.{sym, ap, _∙_}
 use borrow.Author.Needs.{needs}
+use Rattle.commitbytes.specs.Laid.{givenSegment}
+use Rattle.commitbytes.proofs.CommitLaws.{segment-none, segment-there}
 use Rattle.commitbytes.proofs.fields.commit_segment.Statement.{statement}
 use Rattle.commitbytes.proofs.fields.commit_segment.Tie as tie
-use Rattle.commitbytes.proofs.fields.commit_segment.Reads as reads
-use Rattle.commitbytes.proofs.fields.commit_segment.Lts as lts
-use Rattle.commit.proofs.SegmentIdx.zero.Reads as zero-reads
-use Rattle.octets.proofs.load8.Reads as load8-reads
-use Rattle.segmentbytes.proofs.segment_read.Reads as segment-read-reads
 
--- src/fields.rt:95:17
 add-load8 : tie.Need-add-load8
 add-load8 c = search needs
 
--- src/fields.rt:95:8
 load8-requires : tie.Need-load8-requires
 load8-requires c κs = search needs
 
--- src/fields.rt:96:9
 zero-requires : tie.Need-zero-requires
 zero-requires c κs = search needs
 
--- src/fields.rt:96:9
 returns : tie.Need-returns
-returns c = ?
+returns c =
+    let a = c .before .before .before .before .args in
+    c .zero .ensures ∙ sym (ap givenSegment (segment-none (a .s .now) (a .at) (sym (c .before .before .load8 .ensures) ∙ c .before .if1 .taken)))
 
--- src/fields.rt:98:21
 add-segment-read : tie.Need-add-segment-read
 add-segment-read c = search needs
 
--- src/fields.rt:98:5
 segment-read-requires : tie.Need-segment-read-requires
 segment-read-requires c κs = search needs
 
--- src/fields.rt:91:1
 returns-2 : tie.Need-returns-2
-returns-2 c = ?
+returns-2 c =
+    let a = c .before .before .before .before .args in
+    c .segment-read .ensures ∙ sym (ap givenSegment (segment-there (a .s .now) (a .at) (λ e. c .before .if1 .left (c .before .before .load8 .ensures ∙ e))))
 
 pub commit-segment-spec : {M : Type 1} → statement M
 commit-segment-spec =

@@ -50,11 +50,13 @@ loop-again c =
     let a = c .before .before .before .before .before .before .before .before .args in
     let l = c .before .before .before .before .before .before .loop in
     let n = long (c .before .before .before .before .before .before .before .before) in
-    let h : a .at + 8 * length (a .t3) ≤ length (l .s) = omega arith in
-    (search needs, search needs,
-    ap (put (a .at + 8 * (l .i + 1)) (flat lsnSpell (drop (l .i + 1) (a .t3)))) (c .before .before .store64 .ensures)
-    ∙ flat-turn 8 lsnSpell lsn-long (a .at) (l .i) (a .t3) _ (l .s) (omega arith) h
-    ∙ l .inv .2)
+    let h : a .at + 8 * length (a .t3) ≤ length (l .s) = omega arith in (
+      search needs,
+      search needs,
+      ap (put (a .at + 8 * (l .i + 1)) (flat lsnSpell (drop (l .i + 1) (a .t3)))) (c .before .before .store64 .ensures)
+          ∙ flat-turn 8 lsnSpell lsn-long (a .at) (l .i) (a .t3) _ (l .s) (omega arith) h
+          ∙ l .inv .2,
+    )
 
 same-length : tie.Need-same-length Inv-loop μ-loop
 same-length c = search needs
