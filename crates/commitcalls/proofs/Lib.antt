@@ -1,2 +1,0 @@
--- The laws of the calls' answers.
-pub mod CallLaws
