@@ -1,17 +1,19 @@
-// What writing a commit adds to the index: one entry per page of its set. The entries are made one at a time, from the set's last page down, so that no
-// buffer holds them all.
+// What writing a commit adds to the index and to the checkpoints. One index entry per page of its set: they are made one at a time, from the set's last page
+// down, so that no buffer holds them all. And a checkpoint for each LSN that it lists, at most eight, in any order and with repeats.
 use core::id::LogId;
 use core::lsn::Lsn;
+use layout::CHECKPOINT;
 use layout::ENTRY;
 use pageset::PageSet;
 use pageset::Window;
 use pageset::sets;
 ghost use mathlib.Core.Path.{_≡_};
 ghost use mathlib.Core.Bool.{true};
+ghost use Prim.Native.Nat.{_≤_};
 ghost use Rattle.pageset.specs.Sets.{shown, normal};
-ghost use Rattle.table.specs.Table.{recs, laid, wellOrdered, fits};
+ghost use Rattle.table.specs.Table.{runs, recs, laid, wellOrdered, fits};
 ghost use Rattle.batch.specs.Batch.{putAll, news};
-ghost use Rattle.indexing.specs.Rows.{entryRow, withPage, entryRows};
+ghost use Rattle.indexing.specs.Rows.{entryRow, withPage, entryRows, checkpointRow, listed, checkpointRows};
 
 // The index entry of a page.
 fn entry_row(log: LogId, lsn: Lsn, page: u32) -> [u8; 29]
@@ -83,4 +85,50 @@ pub fn put_entries(t: &mut [u8], log: LogId, lsn: Lsn, set: PageSet, fresh: usiz
         n -= 1;
     }
     octets::store16(t, 0, count + fresh);
+}
+
+// The checkpoint at an LSN.
+fn checkpoint_row(log: LogId, lsn: Lsn) -> [u8; 25]
+    ensures { λ r. ⌜ r ≡ checkpointRow log (lsn .0) ⌝ }
+{
+    let mut k = [0u8; 25];
+    octets::store_id(&mut k, 1, log);
+    octets::store64(&mut k, 17, !lsn.0);
+    k
+}
+
+// The checkpoints at the first n of eight LSNs, one after another.
+fn checkpoint_rows(log: LogId, lsns: [Lsn; 8], n: usize) -> [u8; 200]
+    requires { ⌜ n ≤ 8 ⌝ }
+    ensures { λ r. ⌜ runs n 25 0 r ≡ checkpointRows log (listed lsns n) ⌝ }
+{
+    let mut rows = [0u8; 200];
+    let mut i: usize = 0;
+    while i < n {
+        let k = checkpoint_row(log, lsns[i]);
+        octets::store_all(&mut rows, i * CHECKPOINT, &k);
+        i += 1;
+    }
+    rows
+}
+
+// How many distinct keys of the checkpoints the table t lacks.
+pub fn count_checkpoints(t: &[u8], log: LogId, lsns: [Lsn; 8], n: usize) -> usize
+    requires { ⌜ wellOrdered 25 25 (now t) ≡ true ⌝ }
+    requires { ⌜ n ≤ 8 ⌝ }
+    ensures { λ r. ⌜ r ≡ news 25 (checkpointRows log (listed lsns n)) (recs 25 (now (t .entry))) ⌝ }
+{
+    let rows = checkpoint_rows(log, lsns, n);
+    batch::count_new(t, CHECKPOINT, CHECKPOINT, &rows, n)
+}
+
+// The checkpoints put into the table t.
+pub fn put_checkpoints(t: &mut [u8], log: LogId, lsns: [Lsn; 8], n: usize)
+    requires { ⌜ wellOrdered 25 25 (now t) ≡ true ⌝ }
+    requires { ⌜ n ≤ 8 ⌝ }
+    requires { ⌜ fits 25 (putAll 25 (checkpointRows log (listed lsns n)) (recs 25 (now t))) (now t) ≡ true ⌝ }
+    ensures { λ _. ⌜ now (t .exit) ≡ laid (putAll 25 (checkpointRows log (listed lsns n)) (recs 25 (now (t .entry)))) (now (t .entry)) ⌝ }
+{
+    let rows = checkpoint_rows(log, lsns, n);
+    batch::put_all(t, CHECKPOINT, CHECKPOINT, &rows, n);
 }

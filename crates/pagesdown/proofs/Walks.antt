@@ -1,11 +1,11 @@
 -- A walk over the pages of a set from the last down yields them all, last first: at its start the pages of the set are left (`walk-all`), each step takes the last of
--- the pages that are left (`step-last`), and where they are counted down to 0 none is left (`walk-end`). Where the window under way has no page left, the
+-- the pages that are left (`step-done`), and where they are counted down to 0 none is left (`walk-end`); `all-yielded` says it of the whole walk. Where the window under way has no page left, the
 -- next one down has the last of them (`left-next`).
 use Prim.Native.Nat.{ℕ, zero, suc, _+_, _-_, _*_, _%_, _^_, _≤_, _<_}
-use mathlib.Core.Path.{_≡_, refl, sym, ap, _∙_}
+use mathlib.Core.Path.{_≡_, refl, sym, ap, _∙_, subst}
 use mathlib.Core.Logic.{⊎-elim}
 use mathlib.Core.Bool.{Bool, true, false, cond, _&&_}
-use mathlib.Core.List.{List, [], _∷_, _++_, append-nil, append-assoc}
+use mathlib.Core.List.{List, [], _∷_, _++_, append-nil, append-assoc, reverse, reverse-append}
 use native.Mathlib.Nat.{add-comm}
 use native.Mathlib.Omega.{arith}
 use borrow.Author.Tests.{eqb-true, eqb-false}
@@ -152,16 +152,40 @@ module _ (s : PageSet) (e : normal s ≡ true) where
           last = rw ej at (t .last)
 
           -- the last of the pages that are left
-          pub step-last : pagesLeft (s .windows) n w ≡ pagesLeft (s .windows) m rest ++ page ∷ []
+          step-last : pagesLeft (s .windows) n w ≡ pagesLeft (s .windows) m rest ++ page ∷ []
           step-last =
               onward .same
               ∙ left-last (s .windows) (cond (eqb (w .mask) 0) (n - 1) n) (under w below) page rest last
               ∙ ap (λ (i : ℕ). pagesLeft (s .windows) i rest ++ page ∷ []) (sym (t .begun))
 
-          pub step-on : Walking s m rest (k - 1)
+          step-on : Walking s m rest (k - 1)
           step-on = record {
             within = omega (arith, t .begun, onward .walk .within);
             index = omega (arith, last .index, onward .walk .index);
             mask = omega (arith, last .less, onward .walk .mask);
             pages = omega (arith, h .pages, ap length step-last, length-append (pagesLeft (s .windows) m rest) (page ∷ []));
           }
+
+          -- one step: its page is the last of those that are left, and the others are left then
+          pub step-done : (pagesLeft (s .windows) n w ≡ pagesLeft (s .windows) m rest ++ page ∷ []) × Walking s m rest (k - 1)
+          step-done = (step-last, step-on)
+
+-- ---- the whole walk
+
+-- k steps from a state on yield these pages, in the order in which they come
+pub data Yields (ws : List Window) : ℕ → Window → ℕ → List ℕ → Type 0 where
+  stop : {n : ℕ} {w : Window} → Yields ws n w 0 []
+  step : {n m k page : ℕ} {w rest : Window} {ps : List ℕ} → Stepped n w (getD ws (n - 1) zeroWindow) page m rest → Yields ws m rest k ps → Yields ws n w (suc k) (page ∷ ps)
+
+yielded : (s : PageSet) → normal s ≡ true → {n k : ℕ} {w : Window} {ps : List ℕ} → Walking s n w k → Yields (s .windows) n w k ps → ps ≡ reverse (pagesLeft (s .windows) n w)
+yielded s e h (stop {n} {w}) = sym (ap reverse (walk-end s e n w 0 h refl))
+yielded s e h (step {n} {m} {k} {page} {w} {rest} {ps} t y) =
+    let d = step-done s e n w (suc k) h (omega arith) (n - 1) refl page m rest t in
+    let l : List ℕ = pagesLeft (s .windows) m rest in
+    let less : suc k - 1 ≡ k = omega arith in
+    let left = subst (λ (i : ℕ). Walking s m rest i) less (d .1) in
+    ap (λ (qs : List ℕ). page ∷ qs) (yielded s e {k = k} left y) ∙ sym (ap reverse (d .0) ∙ reverse-append l (page ∷ []))
+
+-- as many steps as a set has pages yield its pages, the last first
+pub all-yielded : (s : PageSet) → normal s ≡ true → (ps : List ℕ) → Yields (s .windows) (s .len) zeroWindow (count (member s) (2 ^ 32)) ps → ps ≡ reverse (pagesIn (shown s))
+all-yielded s e ps y = yielded s e (walk-start s e (count (member s) (2 ^ 32)) refl) y ∙ ap reverse (walk-all s e)

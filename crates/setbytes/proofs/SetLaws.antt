@@ -8,7 +8,7 @@ use mathlib.Core.Option.{Option, none, some}
 use mathlib.Core.Logic.{_⊎_, inl, inr}
 use native.Mathlib.Omega.{arith}
 use native.Mathlib.Nat.{div-one}
-use borrow.Author.Tests.{le-leb, lt-leb}
+use borrow.Author.Tests.{le-leb}
 use lib.Count.{trailingZeros}
 use lib.Dec.{eqb, leb}
 use lib.ListN.{length, drop, getD, replicate, List·getD-append}
@@ -32,11 +32,11 @@ use Rattle.pageset.proofs.EdgeLaws.{none-lowest, first-small, first-in, first-l
 use Rattle.rules.specs.Records.{Pages}
 use Rattle.rules.specs.Pages.{firstPage}
 use Rattle.rules.proofs.PageCounts.{first-page}
-use Rattle.layout.specs.Codecs.{Codec, inForm, spelled}
+use Rattle.layout.specs.Codecs.{Codec, inForm}
 use Rattle.layout.specs.Values.{windowBytes, setBytes}
 use Rattle.layout.proofs.HoldLaws.{in-form}
 use Rattle.setbytes.specs.Laid.{windowsAt, setLaid}
-use Rattle.setbytes.proofs.ListLaws.{length-read, read-nth, list-at, list-asked, spell-array}
+use Rattle.setbytes.proofs.ListLaws.{length-read, read-nth, list-at, list-over, list-not, list-but, spell-array}
 use Rattle.setbytes.proofs.WindowLaws.{window-at, window-steady, window-free, window-long, window-zero}
 use Rattle.setbytes.proofs.LaidLaws.{says-laid, laid-normal}
 
@@ -134,59 +134,40 @@ normal-is : (ws : Pages) → length ws ≤ 32 → normalForm ws ≡ inOrder 0 ws
 unfolding normalForm
 normal-is ws h = rw (le-leb (length ws) 32 h)
 
-module _ (s : List ℕ) (at : ℕ) (h : at + 385 ≤ length s) where
-  abbrev count : ℕ
-  count = be (part at 1 s)
+-- the windows that a set spells
+pub set-at : (s : List ℕ) (at : ℕ) → at + 385 ≤ length s → (m : ℕ) → m ≡ min (be (part at 1 s)) 32 → setBytes .read (part at 385 s) ≡ windowsAt m (at + 1) s
+unfolding setBytes windowBytes windowsAt
+set-at s at h m e = list-at windowBytes 32 s at h m e
 
-  -- the windows that a set spells
-  pub set-at : (m : ℕ) → m ≡ min (be (part at 1 s)) 32 → setBytes .read (part at 385 s) ≡ windowsAt m (at + 1) s
-  unfolding setBytes windowBytes windowsAt
-  set-at m e = list-at windowBytes 32 s at h m e
+module _ (s : List ℕ) (ab : AreBytes s) (at : ℕ) (h : at + 385 ≤ length s) where
+  pub over-32 : 32 < be (part at 1 s) → inForm setBytes normalForm (part at 385 s) ≡ false
+  unfolding setBytes windowBytes
+  over-32 l = list-over windowBytes 32 window-steady window-free (omega arith) s ab at h normalForm l
 
-  module _ (ab : AreBytes s) where
-    -- what is asked of its bytes
-    pub set-asked : (m : ℕ) → m ≡ min (be (part at 1 s)) 32
-        → spelled setBytes (part at 385 s) ≡ leb (be (part at 1 s)) 32 && allZero (part (at + 1 + m * 12) ((32 - m) * 12) s)
-    unfolding setBytes windowBytes
-    set-asked m e =
-        let z : at + (1 + m * 12) ≡ at + 1 + m * 12 = omega arith in
-        list-asked windowBytes 32 s at h m e window-steady window-free ab (omega arith)
-        ∙ ap (λ (k : ℕ). leb count 32 && allZero (part k ((32 - m) * 12) s)) z
+  module _ (n : ℕ) (c : n ≡ be (part at 1 s)) (l : n ≤ 32) where
+    abbrev ordered : Bool
+    ordered = inOrder 0 (windowsAt n (at + 1) s)
 
-    pub over-32 : 32 < be (part at 1 s) → inForm setBytes normalForm (part at 385 s) ≡ false
-    unfolding inForm
-    over-32 l = and-left _ _ (set-asked (min count 32) refl ∙ and-left _ _ (lt-leb count 32 l))
+    abbrev no-zero : Bool
+    no-zero = not (holds (windowsAt n (at + 1) s) 0)
 
-    module _ (n : ℕ) (c : n ≡ be (part at 1 s)) (l : n ≤ 32) where
-      least : n ≡ min count 32
-      least = omega arith
+    form-is : normalForm (windowsAt n (at + 1) s) ≡ ordered && no-zero
+    form-is = normal-is (windowsAt n (at + 1) s) (omega (arith, length-windows n (at + 1) s))
 
-      abbrev clear : Bool
-      clear = allZero (part (at + 1 + n * 12) ((32 - n) * 12) s)
+    not-normal : normalForm (windowsAt n (at + 1) s) ≡ false → inForm setBytes normalForm (part at 385 s) ≡ false
+    unfolding setBytes windowBytes windowsAt
+    not-normal e = list-not windowBytes 32 window-steady window-free (omega arith) s ab at h normalForm n c l e
 
-      abbrev ordered : Bool
-      ordered = inOrder 0 (windowsAt n (at + 1) s)
+    pub not-ordered : inOrder 0 (windowsAt n (at + 1) s) ≡ false → inForm setBytes normalForm (part at 385 s) ≡ false
+    not-ordered e = not-normal (form-is ∙ and-left ordered no-zero e)
 
-      abbrev no-zero : Bool
-      no-zero = not (holds (windowsAt n (at + 1) s) 0)
+    pub with-zero : holds (windowsAt n (at + 1) s) 0 ≡ true → inForm setBytes normalForm (part at 385 s) ≡ false
+    with-zero e = not-normal (form-is ∙ and-right ordered no-zero (ap not e))
 
-      form-is : inForm setBytes normalForm (part at 385 s) ≡ (leb count 32 && clear) && (ordered && no-zero)
-      unfolding inForm
-      form-is = ap₂ _&&_ (set-asked n least) (ap normalForm (set-at n least) ∙ normal-is (windowsAt n (at + 1) s) (omega (arith, length-windows n (at + 1) s)))
-
-      pub not-ordered : inOrder 0 (windowsAt n (at + 1) s) ≡ false → inForm setBytes normalForm (part at 385 s) ≡ false
-      not-ordered e = form-is ∙ and-right (leb count 32 && clear) (ordered && no-zero) (and-left ordered no-zero e)
-
-      pub with-zero : holds (windowsAt n (at + 1) s) 0 ≡ true → inForm setBytes normalForm (part at 385 s) ≡ false
-      with-zero e = form-is ∙ and-right (leb count 32 && clear) (ordered && no-zero) (and-right ordered no-zero (ap not e))
-
-      pub but-clear : inOrder 0 (windowsAt n (at + 1) s) ≡ true → holds (windowsAt n (at + 1) s) 0 ≡ false
-          → allZero (part (at + 1 + n * 12) ((32 - n) * 12) s) ≡ inForm setBytes normalForm (part at 385 s)
-      but-clear p q = sym (form-is ∙ rw (le-leb count 32 (omega arith), p, q) (and-true clear))
-        where
-          and-true : (b : Bool) → (b && true) ≡ b
-          and-true true = refl
-          and-true false = refl
+    pub but-clear : inOrder 0 (windowsAt n (at + 1) s) ≡ true → holds (windowsAt n (at + 1) s) 0 ≡ false
+        → allZero (part (at + 1 + n * 12) ((32 - n) * 12) s) ≡ inForm setBytes normalForm (part at 385 s)
+    unfolding setBytes windowBytes windowsAt
+    but-clear p q = list-but windowBytes 32 window-steady window-free (omega arith) s ab at h normalForm n c l (form-is ∙ ap₂ (λ (a b : Bool). a && not b) p q)
 
 -- ---- the first page
 
@@ -265,7 +246,7 @@ set-stored at x s t u e l h p q =
     let n : length (flat (windowBytes .spell) (x .windows)) ≡ 384 = F.length-flat 12 (windowBytes .spell) window-long (x .windows) ∙ ap (λ (k : ℕ). 12 * k) l in
     P.chain at 1 384 (bytesOf 1 (x .len)) (flat (windowBytes .spell) (x .windows)) s t u (N.length-bytesOf 1 (x .len)) n (omega arith) p q
     ∙ ap (λ (y : PageSet). put at (bytesOf 1 (y .len) ++ flat (windowBytes .spell) (y .windows)) s) (sym e)
-    ∙ ap (λ (l : List ℕ). put at l s) (sym (spell-array windowBytes 32 zeroWindow window-zero (shown x)))
+    ∙ ap (λ (l : List ℕ). put at l s) (sym (spell-array windowBytes 32 (windowBytes .spell) zeroWindow window-zero (shown x) (shown x) refl))
 
 -- ---- a set read
 

@@ -10,11 +10,12 @@ use Rattle.octets.proofs.Numbers as N
 use Rattle.octets.proofs.Places as P
 use Rattle.pageset.specs.declared.Window.{Window}
 use Rattle.pageset.specs.Sets.{zeroWindow}
+use Rattle.rules.specs.Records.{Pages}
 use Rattle.layout.specs.Codecs.{Codec, number, pair, spelled}
-use Rattle.layout.specs.Values.{windowBytes, windowOf, windowParts}
-use Rattle.layout.proofs.SpellLaws.{Steady, number-steady, pair-steady, viewed-steady, number-spelled, pair-spelled, viewed-spelled}
+use Rattle.layout.specs.Values.{windowBytes, windowOf, windowParts, setBytes}
+use Rattle.layout.proofs.SpellLaws.{Steady, number-steady, pair-steady, viewed-steady, listed-steady, number-spelled, pair-spelled, viewed-spelled}
 use Rattle.layout.proofs.PlaceLaws.{pair-read}
-use Rattle.setbytes.proofs.ListLaws.{Free}
+use Rattle.setbytes.proofs.ListLaws.{Free, list-long}
 
 -- any bytes are those of two numbers
 pub two-steady : (j k : ℕ) → Steady (pair (number j) (number k))
@@ -53,3 +54,13 @@ pub window-stored : (at : ℕ) (w : Window) (s t u : List ℕ) → at + 12 ≤ l
     → u ≡ put at (windowBytes .spell w) s
 unfolding windowBytes
 window-stored at w s t u h p q = P.chain at 4 8 (bytesOf 4 (w .index)) (bytesOf 8 (w .mask)) s t u (N.length-bytesOf 4 (w .index)) (N.length-bytesOf 8 (w .mask)) (omega arith) p q
+
+-- ---- a page set
+
+pub set-steady : Steady setBytes
+unfolding setBytes
+set-steady = listed-steady windowBytes 32 window-steady
+
+pub set-long : (ws : Pages) → length ws ≤ 32 → length (setBytes .spell ws) ≡ 385
+unfolding setBytes windowBytes
+set-long ws h = list-long windowBytes 32 window-long ws h

@@ -41,6 +41,17 @@ unfolding pendingBytes
 length-pending none h = refl
 length-pending (some p) h = ap suc (length-commit p (h p refl))
 
+pub length-volume : (v : rules.Volume) → length (v .vid) ≡ 16 → length (v .local) ≡ 16 → length (v .remote) ≡ 16 → ((p : rules.Pending) → v .pending ≡ some p → length (p .hash) ≡ 32)
+    → length (volumeBytes .spell v) ≡ 117
+unfolding volumeBytes
+length-volume v lv ll lr lh =
+    let ys = optional syncBytes .spell (v .sync) in
+    let ps = optional pendingBytes .spell (v .pending) in
+    let l1 : length (ys ++ ps) ≡ 67 = length-append ys ps ∙ ap₂ _+_ (length-sync (v .sync)) (length-pending (v .pending) lh) in
+    let l2 : length (v .remote ++ (ys ++ ps)) ≡ 83 = length-append (v .remote) (ys ++ ps) ∙ ap₂ _+_ lr l1 in
+    let l3 : length ((0 ∷ v .local) ++ (v .remote ++ (ys ++ ps))) ≡ 100 = length-append (0 ∷ v .local) (v .remote ++ (ys ++ ps)) ∙ ap₂ _+_ (ap suc ll) l2 in
+    length-append (0 ∷ v .vid) ((0 ∷ v .local) ++ (v .remote ++ (ys ++ ps))) ∙ ap₂ _+_ (ap suc lv) l3
+
 -- the hash of a pending commit is the one that stands beside it
 pub long-beside : (q : PendingCommit) (hash : List ℕ) → length hash ≡ 32 → (p : rules.Pending) → pendingSays q hash ≡ some p → length (p .hash) ≡ 32
 long-beside PendingCommit.Missing hash l p e = absurd (missing refl e)

@@ -9,7 +9,7 @@ use Rattle.pageset.specs.declared.PageSet.{PageSet}
 use Rattle.table.specs.Table.{recs}
 use Rattle.batch.specs.Batch.{fresh}
 use Rattle.pagesdown.specs.Down.{pagesLeft}
-use Rattle.pagesdown.proofs.Walks.{Walking, walk-start, walk-end, walk-place, step-ready, step-last, step-on}
+use Rattle.pagesdown.proofs.Walks.{Walking, walk-start, walk-end, walk-place, step-ready, step-done}
 use Rattle.indexing.proofs.EntryTurns.{pageRows, all-counted, count-turn, count-end}
 use Rattle.indexing.proofs.count_entries.Statement.{statement}
 use Rattle.indexing.proofs.count_entries.Tie as tie
@@ -76,10 +76,12 @@ loop-again c =
     let s = c .before .before .before .before .before .before .before .before .before .before .before .before .before .args .set in
     let l = c .before .before .before .before .before .before .before .before .loop in
     let d = c .before .before .before .before .next-down in
-    let e = step-last s (c .before .before .before .before .before .before .before .before .before .before .before .before .before .pre .1) (l .i) (l .w) (l .n) (l .inv .1) (c .before .before .before .before .before .before .before .loop-test .taken) (c .before .before .before .before .before .before .last-place .result) (c .before .before .before .before .before .before .last-place .ensures) (d .result .page) (d .result .windows) (d .result .rest) (d .ensures) in (
+    let q =
+    step-done s (c .before .before .before .before .before .before .before .before .before .before .before .before .before .pre .1) (l .i) (l .w) (l .n) (l .inv .1) (c .before .before .before .before .before .before .before .loop-test .taken) (c .before .before .before .before .before .before .last-place .result) (c .before .before .before .before .before .before .last-place .ensures) (d .result .page) (d .result .windows) (d .result .rest) (d .ensures) in (
       omega (arith, c .before .lacking .ensures .1),
-      step-on s (c .before .before .before .before .before .before .before .before .before .before .before .before .before .pre .1) (l .i) (l .w) (l .n) (l .inv .1) (c .before .before .before .before .before .before .before .loop-test .taken) (c .before .before .before .before .before .before .last-place .result) (c .before .before .before .before .before .before .last-place .ensures) (d .result .page) (d .result .windows) (d .result .rest) (d .ensures),
-      count-turn (c .before .before .before .before .before .before .before .before .before .before .before .entry-row .result) (recs 29 (c .before .before .before .before .before .before .before .before .before .before .before .before .before .args .t .now)) _ (l .c) (pagesLeft (s .windows) (l .i) (l .w)) (l .inv .2) (pagesLeft (s .windows) (d .result .windows) (d .result .rest)) (c .before .before .before .with-page .result) (d .result .page) (c .before .lacking .result) e (c .before .before .before .with-page .ensures) (c .before .lacking .ensures .0),
+      q .1,
+      count-turn (c .before .before .before .before .before .before .before .before .before .before .before .entry-row .result) (recs 29 (c .before .before .before .before .before .before .before .before .before .before .before .before .before .args .t .now)) _ (l .c) (pagesLeft (s .windows) (l .i) (l .w)) (l .inv .2)
+          (pagesLeft (s .windows) (d .result .windows) (d .result .rest)) (c .before .before .before .with-page .result) (d .result .page) (c .before .lacking .result) (q .0) (c .before .before .before .with-page .ensures) (c .before .lacking .ensures .0),
     )
 
 returns : tie.Need-returns Inv-loop μ-loop

@@ -1,7 +1,7 @@
 -- `indexing::put_entries` meets its contract. The invariant: the walk over the set's pages (`Walking`), and the state of the merge with the rows of the pages that
 -- are left still to come (`Entering`); the measure: n, the pages that are left.
 use mathlib.Core.Path.{_≡_, refl, sym, ap, _∙_, subst}
-use mathlib.Core.List.{List}
+use mathlib.Core.List.{List, [], _∷_, _++_}
 use Prim.Native.Nat.{ℕ, _+_, _-_, _≤_, _<_}
 use borrow.Author.Needs.{needs}
 use native.Mathlib.Omega.{arith}
@@ -13,7 +13,7 @@ use Rattle.table.specs.Table.{countOf}
 use Rattle.table.proofs.Checks.{well-two}
 use Rattle.batch.proofs.Merges.{Ready, total-small}
 use Rattle.pagesdown.specs.Down.{pagesLeft}
-use Rattle.pagesdown.proofs.Walks.{Walking, walk-start, walk-end, walk-place, step-ready, step-last, step-on}
+use Rattle.pagesdown.proofs.Walks.{Walking, walk-start, walk-end, walk-place, step-ready, step-done}
 use Rattle.indexing.specs.Rows.{entryRow}
 use Rattle.indexing.proofs.EntryRows.{row-long}
 use Rattle.indexing.proofs.EntryTurns.{pageRows}
@@ -86,15 +86,22 @@ with-page-requires c κs = search needs
 slice-aggregate-merge-next : tie.Need-slice-aggregate-merge-next Inv-loop μ-loop
 slice-aggregate-merge-next c = search needs
 
+-- the step of a turn: its page is the last of those that are left
+stepped : (c : tie.After-next-down Inv-loop μ-loop) → let ws = c .before .before .before .before .before .before .before .before .before .before .before .args .set .windows in let l = c .before .before .before .before .loop in let r = c .next-down .result in
+    (pagesLeft ws (l .i) (l .w) ≡ pagesLeft ws (r .windows) (r .rest) ++ r .page ∷ []) × Walking (c .before .before .before .before .before .before .before .before .before .before .before .args .set) (r .windows) (r .rest) (l .n - 1)
+stepped c =
+    let l = c .before .before .before .before .loop in
+    let d = c .next-down in
+    step-done (c .before .before .before .before .before .before .before .before .before .before .before .args .set) (c .before .before .before .before .before .before .before .before .before .before .before .pre .1 .0) (l .i) (l .w) (l .n) (l .inv .1) (c .before .before .before .loop-test .taken) (c .before .before .last-place .result) (c .before .before .last-place .ensures) (d .result .page) (d .result .windows) (d .result .rest) (d .ensures)
+
 merge-next-requires : tie.Need-merge-next-requires Inv-loop μ-loop
 merge-next-requires c κs =
     let a = c .before .before .before .before .before .before .before .before .before .before .before .before .before .before .args in
     let l = c .before .before .before .before .before .before .before .loop in
     let d = c .before .before .before .next-down in
     let row = c .before .before .before .before .before .before .before .before .before .before .before .before .entry-row .result in
-    let split = step-last (a .set) (c .before .before .before .before .before .before .before .before .before .before .before .before .before .before .pre .1 .0) (l .i) (l .w) (l .n) (l .inv .1) (c .before .before .before .before .before .before .loop-test .taken) (c .before .before .before .before .before .last-place .result) (c .before .before .before .before .before .last-place .ensures) (d .result .page) (d .result .windows) (d .result .rest) (d .ensures) in
     entering-next row (row-of (c .before .before .before .before .before .before .before .before .before .before .before .before .before .before) row (c .before .before .before .before .before .before .before .before .before .before .before .before .entry-row .ensures)) (a .fresh) (pagesLeft (a .set .windows) (a .set .len) zeroWindow) (a .t .now) (ready (c .before .before .before .before .before .before .before .before .before .before .before .before .before .before) row (c .before .before .before .before .before .before .before .before .before .before .before .before .entry-row .ensures))
-    (pagesLeft (a .set .windows) (l .i) (l .w)) (pagesLeft (a .set .windows) (d .result .windows) (d .result .rest)) (d .result .page) split
+    (pagesLeft (a .set .windows) (l .i) (l .w)) (pagesLeft (a .set .windows) (d .result .windows) (d .result .rest)) (d .result .page) (stepped (c .before .before .before) .0)
     (c .before .before .with-page .result) (c .before .before .with-page .ensures) (l .held) (l .coming) (l .t) (l .inv .2)
 
 sub-n : tie.Need-sub-n Inv-loop μ-loop
@@ -110,11 +117,11 @@ loop-again c =
     let d = c .before .before .before .before .before .before .before .next-down in
     let m = c .before .before .before .merge-next in
     let row = c .before .before .before .before .before .before .before .before .before .before .before .before .before .before .before .before .entry-row .result in
-    let split = step-last (a .set) (c .before .before .before .before .before .before .before .before .before .before .before .before .before .before .before .before .before .before .pre .1 .0) (l .i) (l .w) (l .n) (l .inv .1) (c .before .before .before .before .before .before .before .before .before .before .loop-test .taken) (c .before .before .before .before .before .before .before .before .before .last-place .result) (c .before .before .before .before .before .before .before .before .before .last-place .ensures) (d .result .page) (d .result .windows) (d .result .rest) (d .ensures) in (
+    let q = stepped (c .before .before .before .before .before .before .before) in (
       omega (arith, m .kept .0, l .inv .0),
-      step-on (a .set) (c .before .before .before .before .before .before .before .before .before .before .before .before .before .before .before .before .before .before .pre .1 .0) (l .i) (l .w) (l .n) (l .inv .1) (c .before .before .before .before .before .before .before .before .before .before .loop-test .taken) (c .before .before .before .before .before .before .before .before .before .last-place .result) (c .before .before .before .before .before .before .before .before .before .last-place .ensures) (d .result .page) (d .result .windows) (d .result .rest) (d .ensures),
+      q .1,
       entering-turn row (row-of (c .before .before .before .before .before .before .before .before .before .before .before .before .before .before .before .before .before .before) row (c .before .before .before .before .before .before .before .before .before .before .before .before .before .before .before .before .entry-row .ensures)) (a .fresh) (pagesLeft (a .set .windows) (a .set .len) zeroWindow) (a .t .now) (ready (c .before .before .before .before .before .before .before .before .before .before .before .before .before .before .before .before .before .before) row (c .before .before .before .before .before .before .before .before .before .before .before .before .before .before .before .before .entry-row .ensures))
-          (pagesLeft (a .set .windows) (l .i) (l .w)) (pagesLeft (a .set .windows) (d .result .windows) (d .result .rest)) (d .result .page) split
+          (pagesLeft (a .set .windows) (l .i) (l .w)) (pagesLeft (a .set .windows) (d .result .windows) (d .result .rest)) (d .result .page) (q .0)
           (c .before .before .before .before .before .before .with-page .result) (c .before .before .before .before .before .before .with-page .ensures) (l .held) (l .coming) (l .t) (l .inv .2) (m .result .held) (m .result .fresh) _ (m .ensures),
     )
 

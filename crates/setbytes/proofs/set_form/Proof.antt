@@ -17,7 +17,7 @@ cast-n c = search needs
 returns : tie.Need-returns
 returns c =
     let a = c .before .before .before in
-    sym (over-32 (a .args .s .now) (a .args .at) (a .pre) (λ j. c .before .before .shared-slice-known .given j .fits) (omega (arith, c .before .load8 .ensures)))
+    sym (over-32 (a .args .s .now) (λ j. c .before .before .shared-slice-known .given j .fits) (a .args .at) (a .pre) (omega (arith, c .before .load8 .ensures)))
 
 add-in-order : tie.Need-add-in-order
 add-in-order c = search needs
@@ -28,7 +28,7 @@ in-order-requires c κs = search needs
 returns-2 : tie.Need-returns-2
 returns-2 c =
     let a = c .before .before .before .before .before in
-    sym (not-ordered (a .args .s .now) (a .args .at) (a .pre) (λ j. c .before .before .before .before .shared-slice-known .given j .fits) _ (c .before .before .before .load8 .ensures) (omega arith) (sym (c .before .in-order .ensures) ∙ not-true _ (c .if2 .taken)))
+    sym (not-ordered (a .args .s .now) (λ j. c .before .before .before .before .shared-slice-known .given j .fits) (a .args .at) (a .pre) _ (c .before .before .before .load8 .ensures) (omega arith) (sym (c .before .in-order .ensures) ∙ not-true _ (c .if2 .taken)))
 
 add-has-page-zero : tie.Need-add-has-page-zero
 add-has-page-zero c = search needs
@@ -39,7 +39,7 @@ has-page-zero-requires c κs = (omega arith, sym (c .before .in-order .ensures) 
 returns-3 : tie.Need-returns-3
 returns-3 c =
     let a = c .before .before .before .before .before .before .before in
-    sym (with-zero (a .args .s .now) (a .args .at) (a .pre) (λ j. c .before .before .before .before .before .before .shared-slice-known .given j .fits) _ (c .before .before .before .before .before .load8 .ensures) (omega arith) (sym (c .before .has-page-zero .ensures) ∙ c .if3 .taken))
+    sym (with-zero (a .args .s .now) (λ j. c .before .before .before .before .before .before .shared-slice-known .given j .fits) (a .args .at) (a .pre) _ (c .before .before .before .before .before .load8 .ensures) (omega arith) (sym (c .before .has-page-zero .ensures) ∙ c .if3 .taken))
 
 add-all-zero : tie.Need-add-all-zero
 add-all-zero c = search needs
@@ -60,7 +60,7 @@ returns-4 : tie.Need-returns-4
 returns-4 c =
     let a = c .before .before .before .before .before .before .before .before in
     c .all-zero .ensures
-    ∙ but-clear (a .args .s .now) (a .args .at) (a .pre) (λ j. c .before .before .before .before .before .before .before .shared-slice-known .given j .fits) _ (c .before .before .before .before .before .before .load8 .ensures) (omega arith) (sym (c .before .before .before .before .in-order .ensures) ∙ not-false _ (c .before .before .before .if2 .left)) (sym (c .before .before .has-page-zero .ensures) ∙ c .before .if3 .left)
+    ∙ but-clear (a .args .s .now) (λ j. c .before .before .before .before .before .before .before .shared-slice-known .given j .fits) (a .args .at) (a .pre) _ (c .before .before .before .before .before .before .load8 .ensures) (omega arith) (sym (c .before .before .before .before .in-order .ensures) ∙ not-false _ (c .before .before .before .if2 .left)) (sym (c .before .before .has-page-zero .ensures) ∙ c .before .if3 .left)
 
 pub set-form-spec : {M : Type 1} → statement M
 set-form-spec =

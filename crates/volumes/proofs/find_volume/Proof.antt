@@ -1,26 +1,36 @@
+-- The spot of the key is the place of the identifier: the law `spot-says`.
 use borrow.Author.Needs.{needs}
+use native.Mathlib.Omega.{arith}
+use mathlib.Core.Path.{_≡_, ap, _∙_}
+use mathlib.Core.List.{List, _∷_}
+use Prim.Native.Nat.{ℕ}
+use lib.ListN.{length}
+use Rattle.table.specs.Records.{spot}
+use Rattle.table.specs.Table.{recs}
+use Rattle.rows.proofs.Rows.{formed-well}
+use Rattle.rows.proofs.Spots.{spot-says}
+use Rattle.rows.proofs.Tables.{volumes, volume-key}
 use Rattle.volumes.proofs.find_volume.Statement.{statement}
 use Rattle.volumes.proofs.find_volume.Tie as tie
-use Rattle.volumes.proofs.find_volume.Reads as reads
-use Rattle.volumes.proofs.find_volume.Lts as lts
-use Rattle.table.proofs.find.Reads as find-reads
-use Rattle.volumes.proofs.volume_key.Reads as volume-key-reads
 
--- src/lib.rt:71:15
+-- an identifier is 16 bytes
+long : (a : tie.Start) → length (a .args .vid) ≡ 16
+long a = search needs
+
 volume-key-requires : tie.Need-volume-key-requires
 volume-key-requires c κs = search needs
 
--- src/lib.rt:72:40
 slice-aggregate-find : tie.Need-slice-aggregate-find
 slice-aggregate-find c = search needs
 
--- src/lib.rt:72:5
 find-requires : tie.Need-find-requires
-find-requires c κs = ?
+find-requires c κs = let a = c .before .before .before in ((omega arith, omega arith, omega arith), formed-well volumes (a .args .t .now) (a .pre))
 
--- src/lib.rt:67:1
 returns : tie.Need-returns
-returns c = ?
+returns c =
+    let a = c .before .before .before .before in
+    let p = c .find .ensures ∙ ap (λ (k : List ℕ). spot 17 k (recs 117 (a .args .t .now))) (c .before .before .volume-key .ensures) in
+    record { place = p; says = spot-says volumes (a .args .t .now) (a .pre) (0 ∷ a .args .vid) (a .args .vid) (volume-key (a .args .vid) (long a)) _ p }
 
 pub find-volume-spec : {M : Type 1} → statement M
 find-volume-spec =

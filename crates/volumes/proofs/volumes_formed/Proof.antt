@@ -1,64 +1,63 @@
+-- The invariant: the whole test is that of the rows from i on, so a row that is not in form or the end of the rows decides. The measure is the rows left.
+use native.Mathlib.Omega.{arith}
+use mathlib.Core.Path.{_≡_, sym, _∙_}
+use Prim.Native.Nat.{_≤_, _-_}
+use borrow.Author.Tests.{not-true, not-false}
+use Rattle.table.specs.Table.{countOf}
+use Rattle.table.proofs.Checks.{well-two}
+use Rattle.rows.proofs.Checks.{Left, check-no, check-start, check-next, check-stop, check-end, row-room}
+use Rattle.rows.proofs.Tables.{volumes}
 use Rattle.volumes.proofs.volumes_formed.Statement.{statement}
 use Rattle.volumes.proofs.volumes_formed.Tie as tie
-use Rattle.volumes.proofs.volumes_formed.Reads as reads
-use Rattle.volumes.proofs.volumes_formed.Lts as lts
-use Rattle.table.proofs.count.Reads as count-reads
-use Rattle.table.proofs.well_ordered.Reads as well-ordered-reads
-use Rattle.volumebytes.proofs.volume_form.Reads as volume-form-reads
 
 abbrev Inv-loop : tie.InvT-loop
-Inv-loop t n i₀ i = ?
+Inv-loop t n i₀ i = (n ≡ countOf t) × (i ≤ n) × Left volumes t i
 
 abbrev μ-loop : tie.MeasureT-loop
-μ-loop t n i₀ i = ?
+μ-loop t n i₀ i = n - i
 
--- src/lib.rt:34:9
 well-ordered-requires : tie.Need-well-ordered-requires Inv-loop μ-loop
-well-ordered-requires c κs = ?
+well-ordered-requires c κs = omega arith
 
--- src/lib.rt:35:9
 returns : tie.Need-returns Inv-loop μ-loop
-returns c = ?
+returns c = check-no volumes (c .before .before .before .args .t .now) _ (c .before .well-ordered .ensures) (not-true _ (c .if1 .taken))
 
--- src/lib.rt:37:9
 count-requires : tie.Need-count-requires Inv-loop μ-loop
-count-requires c κs = ?
+count-requires c κs = well-two 117 17 (c .before .before .before .args .t .now) (sym (c .before .well-ordered .ensures) ∙ not-false _ (c .if1 .left))
 
--- src/lib.rt:39:5
 loop-holds : tie.Need-loop-holds Inv-loop μ-loop
-loop-holds c = ?
+loop-holds c =
+    (c .count .ensures .0, omega arith, check-start volumes (c .before .before .before .before .args .t .now) _ (c .before .before .well-ordered .ensures) (not-false _ (c .before .if1 .left)))
 
--- src/lib.rt:40:32
 mul-volume-form : tie.Need-mul-volume-form Inv-loop μ-loop
-mul-volume-form c = ?
+mul-volume-form c =
+    omega (arith, row-room 117 17 (c .before .loop .i) (c .before .before .before .before .before .before .args .t .now) (omega arith) (sym (c .before .before .before .before .well-ordered .ensures) ∙ not-false _ (c .before .before .before .if1 .left)) (omega arith))
 
--- src/lib.rt:40:28
 add-volume-form : tie.Need-add-volume-form Inv-loop μ-loop
-add-volume-form c = ?
+add-volume-form c =
+    omega (arith, row-room 117 17 (c .before .loop .i) (c .before .before .before .before .before .before .args .t .now) (omega arith) (sym (c .before .before .before .before .well-ordered .ensures) ∙ not-false _ (c .before .before .before .if1 .left)) (omega arith))
 
--- src/lib.rt:40:13
 volume-form-requires : tie.Need-volume-form-requires Inv-loop μ-loop
-volume-form-requires c κs = ?
+volume-form-requires c κs =
+    omega (arith, row-room 117 17 (c .before .loop .i) (c .before .before .before .before .before .before .args .t .now) (omega arith) (sym (c .before .before .before .before .well-ordered .ensures) ∙ not-false _ (c .before .before .before .if1 .left)) (omega arith))
 
--- src/lib.rt:41:13
 returns-2 : tie.Need-returns-2 Inv-loop μ-loop
-returns-2 c = ?
+returns-2 c =
+    check-stop volumes (c .before .before .before .before .before .before .before .before .args .t .now) (c .before .before .before .loop .i) (omega arith) _ (c .before .volume-form .ensures) (c .before .before .before .loop .inv .2) (not-true _ (c .if2 .taken))
 
--- src/lib.rt:43:9
 add-i : tie.Need-add-i Inv-loop μ-loop
-add-i c = ?
+add-i c = omega arith
 
--- src/lib.rt:39:5
 loop-less : tie.Need-loop-less Inv-loop μ-loop
-loop-less c = ?
+loop-less c = omega arith
 
--- src/lib.rt:39:5
 loop-again : tie.Need-loop-again Inv-loop μ-loop
-loop-again c = ?
+loop-again c =
+    (c .before .before .before .loop .inv .0, omega arith, check-next volumes (c .before .before .before .before .before .before .before .before .args .t .now) (c .before .before .before .loop .i) (omega arith) _ (c .before .volume-form .ensures) (c .before .before .before .loop .inv .2) (not-false _ (c .if2 .left)))
 
--- src/lib.rt:31:1
 returns-3 : tie.Need-returns-3 Inv-loop μ-loop
-returns-3 c = ?
+returns-3 c =
+    check-end volumes (c .before .before .before .before .before .before .args .t .now) (c .before .loop .i) (omega arith) (c .before .loop .inv .2)
 
 pub volumes-formed-spec : {M : Type 1} → statement M
 volumes-formed-spec =

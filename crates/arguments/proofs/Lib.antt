@@ -1,0 +1,3 @@
+pub mod ArgLaws
+pub mod EarlyLaws
+pub mod SetLaws

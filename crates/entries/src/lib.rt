@@ -1,0 +1,280 @@
+// Checkpoints, the page index and presence: the three tables whose record is its key (docs/TABLES.md).
+// A table is checked in one pass that carries the numbers of the record before, so that each byte is loaded once.
+use core::id::LogId;
+use core::id::SegmentId;
+use core::lsn::Lsn;
+use core::pageidx::PageIdx;
+ghost use mathlib.Core.Path.{_≡_};
+ghost use mathlib.Core.Bool.{true};
+ghost use Prim.Native.Nat.{_+_, _*_, _≤_, _<_};
+ghost use lib.ListN.{length};
+ghost use Rattle.octets.specs.Bytes.{be, part};
+ghost use Rattle.octets.specs.Order.{isLess};
+ghost use Rattle.rules.specs.Forms.{checkpointForm, entryForm, presentForm};
+ghost use Rattle.layout.specs.Codecs.{inForm};
+ghost use Rattle.layout.specs.Records.{logLsnBytes, logPageLsnBytes, sidPageBytes, checkpointBytes, entryBytes, presentBytes};
+ghost use Rattle.layout.specs.Tables.{checkpointsOk, indexOk, presenceOk};
+ghost use Rattle.entries.specs.Keys.{sizeOf, rowForm, tableOk, rowsOk, pageIn, lsnIn, rowOf, rowOrder};
+
+// The tables whose record is its key.
+pub enum Keyed {
+    Checkpoints,
+    Index,
+    Presence,
+}
+
+// A record as numbers: the halves of its identifier, its page and its LSN as its bytes have them, 0 where it has none.
+struct Row {
+    formed: bool,
+    high: u64,
+    low: u64,
+    page: u64,
+    lsn: u64,
+}
+
+// Whether the bytes at a place are a checkpoint's: the reserved byte is 0, the LSN is not.
+pub fn checkpoint_form(s: &[u8], at: usize) -> bool
+    requires { ⌜ at + 25 ≤ length (now s) ⌝ }
+    ensures { λ r. ⌜ r ≡ inForm checkpointBytes checkpointForm (part at 25 (now (s .entry))) ⌝ }
+{
+    if octets::load8(s, at) != 0 {
+        return false;
+    }
+    octets::load64(s, at + 17) != 18446744073709551615
+}
+
+// Whether the bytes at a place are an index entry's: the reserved byte is 0, neither the page nor the LSN is.
+pub fn entry_form(s: &[u8], at: usize) -> bool
+    requires { ⌜ at + 29 ≤ length (now s) ⌝ }
+    ensures { λ r. ⌜ r ≡ inForm entryBytes entryForm (part at 29 (now (s .entry))) ⌝ }
+{
+    if octets::load8(s, at) != 0 {
+        return false;
+    }
+    if octets::load32(s, at + 17) == 0 {
+        return false;
+    }
+    octets::load64(s, at + 21) != 18446744073709551615
+}
+
+// Whether the bytes at a place are a present page's: the reserved byte is 0, the page is not.
+pub fn present_form(s: &[u8], at: usize) -> bool
+    requires { ⌜ at + 21 ≤ length (now s) ⌝ }
+    ensures { λ r. ⌜ r ≡ inForm presentBytes presentForm (part at 21 (now (s .entry))) ⌝ }
+{
+    if octets::load8(s, at) != 0 {
+        return false;
+    }
+    octets::load32(s, at + 17) != 4294967295
+}
+
+// The size of a table's record.
+pub fn size(table: Keyed) -> usize
+    ensures { λ r. ⌜ r ≡ sizeOf table ⌝ }
+{
+    match table {
+        Keyed::Checkpoints => layout::CHECKPOINT,
+        Keyed::Index => layout::ENTRY,
+        Keyed::Presence => layout::PRESENT,
+    }
+}
+
+// Whether the record at a place is in form.
+fn row_form(s: &[u8], at: usize, table: Keyed) -> bool
+    requires { ⌜ at + sizeOf table ≤ length (now s) ⌝ }
+    ensures { λ r. ⌜ r ≡ rowForm table (part at (sizeOf table) (now (s .entry))) ⌝ }
+{
+    match table {
+        Keyed::Checkpoints => checkpoint_form(s, at),
+        Keyed::Index => entry_form(s, at),
+        Keyed::Presence => present_form(s, at),
+    }
+}
+
+// The page of the record at a place as its bytes have it.
+fn page_at(s: &[u8], at: usize, table: Keyed) -> u64
+    requires { ⌜ at + sizeOf table ≤ length (now s) ⌝ }
+    ensures { λ r. ⌜ r ≡ pageIn table (part at (sizeOf table) (now (s .entry))) ⌝ }
+{
+    match table {
+        Keyed::Checkpoints => 0,
+        Keyed::Index => octets::load32(s, at + 17) as u64,
+        Keyed::Presence => octets::load32(s, at + 17) as u64,
+    }
+}
+
+// The LSN of the record at a place as its bytes have it.
+fn lsn_at(s: &[u8], at: usize, table: Keyed) -> u64
+    requires { ⌜ at + sizeOf table ≤ length (now s) ⌝ }
+    ensures { λ r. ⌜ r ≡ lsnIn table (part at (sizeOf table) (now (s .entry))) ⌝ }
+{
+    match table {
+        Keyed::Checkpoints => octets::load64(s, at + 17),
+        Keyed::Index => octets::load64(s, at + 21),
+        Keyed::Presence => 0,
+    }
+}
+
+// The record at a place as numbers.
+fn row_at(s: &[u8], at: usize, table: Keyed) -> Row
+    requires { ⌜ at + sizeOf table ≤ length (now s) ⌝ }
+    ensures { λ r. ⌜ r ≡ rowOf table (part at (sizeOf table) (now (s .entry))) ⌝ }
+{
+    let high = octets::load64(s, at + 1);
+    let low = octets::load64(s, at + 9);
+    let page = page_at(s, at, table);
+    let lsn = lsn_at(s, at, table);
+    let formed = row_form(s, at, table);
+    Row {
+        formed: formed,
+        high: high,
+        low: low,
+        page: page,
+        lsn: lsn,
+    }
+}
+
+// Whether the numbers of a record stand below those of another.
+fn below(x: Row, y: Row) -> bool
+    ensures { λ r. ⌜ r ≡ isLess (rowOrder x y) ⌝ }
+{
+    if x.high != y.high {
+        return x.high < y.high;
+    }
+    if x.low != y.low {
+        return x.low < y.low;
+    }
+    if x.page != y.page {
+        return x.page < y.page;
+    }
+    x.lsn < y.lsn
+}
+
+// Whether the keys of the first n records strictly rise and each is in form.
+fn rows_formed(s: &[u8], table: Keyed, n: usize) -> bool
+    requires { ⌜ 2 + n * sizeOf table ≤ length (now s) ⌝ }
+    ensures { λ r. ⌜ r ≡ rowsOk table n (now (s .entry)) ⌝ }
+{
+    if n == 0 {
+        return true;
+    }
+    let stride = size(table);
+    let mut last = row_at(s, 2, table);
+    if !last.formed {
+        return false;
+    }
+    let mut at: usize = 2;
+    let mut i: usize = 1;
+    while i < n {
+        let next = at + stride;
+        let row = row_at(s, next, table);
+        if !row.formed {
+            return false;
+        }
+        if !below(last, row) {
+            return false;
+        }
+        last = row;
+        at = next;
+        i += 1;
+    }
+    true
+}
+
+// Whether t is one of the three tables: a count that it can hold, keys that strictly rise, each record in form.
+fn table_formed(t: &[u8], table: Keyed) -> bool
+    ensures { λ r. ⌜ r ≡ tableOk table (now (t .entry)) ⌝ }
+{
+    if t.len() < 2 {
+        return false;
+    }
+    let n = table::count(t);
+    if table::capacity(t, size(table)) < n {
+        return false;
+    }
+    rows_formed(t, table, n)
+}
+
+// Whether t is a table of checkpoints.
+pub fn checkpoints_formed(t: &[u8]) -> bool
+    ensures { λ r. ⌜ r ≡ checkpointsOk (now (t .entry)) ⌝ }
+{
+    table_formed(t, Keyed::Checkpoints)
+}
+
+// Whether t is a page index.
+pub fn index_formed(t: &[u8]) -> bool
+    ensures { λ r. ⌜ r ≡ indexOk (now (t .entry)) ⌝ }
+{
+    table_formed(t, Keyed::Index)
+}
+
+// Whether t is a table of present pages.
+pub fn presence_formed(t: &[u8]) -> bool
+    ensures { λ r. ⌜ r ≡ presenceOk (now (t .entry)) ⌝ }
+{
+    table_formed(t, Keyed::Presence)
+}
+
+// The key of a log's checkpoint at an LSN.
+pub fn checkpoint_key(log: LogId, lsn: Lsn) -> [u8; 25]
+    ensures { λ r. ⌜ r ≡ logLsnBytes .spell (log, lsn .0) ⌝ }
+{
+    let mut key = [0u8; 25];
+    octets::store_id(&mut key, 1, log);
+    octets::store64(&mut key, 17, 18446744073709551615 - lsn.0);
+    key
+}
+
+// The key of the index entry of a page at an LSN of a log.
+pub fn entry_key(log: LogId, page: PageIdx, lsn: Lsn) -> [u8; 29]
+    ensures { λ r. ⌜ r ≡ logPageLsnBytes .spell (log, (page .0, lsn .0)) ⌝ }
+{
+    let mut key = [0u8; 29];
+    octets::store_id(&mut key, 1, log);
+    octets::store32(&mut key, 17, page.0);
+    octets::store64(&mut key, 21, 18446744073709551615 - lsn.0);
+    key
+}
+
+// The key of a segment's page that is present.
+pub fn present_key(sid: SegmentId, page: PageIdx) -> [u8; 21]
+    ensures { λ r. ⌜ r ≡ sidPageBytes .spell (sid, page .0) ⌝ }
+{
+    let mut key = [0u8; 21];
+    octets::store_id(&mut key, 1, sid);
+    octets::store32(&mut key, 17, 4294967295 - page.0);
+    key
+}
+
+// The LSN of the checkpoint at a place.
+pub fn checkpoint_lsn(s: &[u8], at: usize) -> Lsn
+    requires { ⌜ at + 25 ≤ length (now s) ⌝ }
+    ensures { λ r. ⌜ r .0 ≡ checkpointBytes .read (part at 25 (now (s .entry))) .lsn ⌝ }
+{
+    Lsn(18446744073709551615 - octets::load64(s, at + 17))
+}
+
+// The LSN of the index entry at a place.
+pub fn entry_lsn(s: &[u8], at: usize) -> Lsn
+    requires { ⌜ at + 29 ≤ length (now s) ⌝ }
+    ensures { λ r. ⌜ r .0 ≡ entryBytes .read (part at 29 (now (s .entry))) .lsn ⌝ }
+{
+    Lsn(18446744073709551615 - octets::load64(s, at + 21))
+}
+
+// The page of the index entry at a place.
+pub fn entry_page(s: &[u8], at: usize) -> PageIdx
+    requires { ⌜ at + 29 ≤ length (now s) ⌝ }
+    ensures { λ r. ⌜ r .0 ≡ entryBytes .read (part at 29 (now (s .entry))) .page ⌝ }
+{
+    PageIdx(octets::load32(s, at + 17))
+}
+
+// The present page at a place.
+pub fn present_page(s: &[u8], at: usize) -> PageIdx
+    requires { ⌜ at + 21 ≤ length (now s) ⌝ }
+    ensures { λ r. ⌜ r .0 ≡ presentBytes .read (part at 21 (now (s .entry))) .page ⌝ }
+{
+    PageIdx(4294967295 - octets::load32(s, at + 17))
+}

@@ -1,0 +1,43 @@
+//! The local bookkeeping of handheld line testers, for a Rust host.
+//!
+//! The calls are proved Rattle code in the archive `libboundary.a`, which `rt staticlib boundary` writes; this crate links it and wraps
+//! each of its functions. A call answers a value or a [`Refusal`], document 01's number with its words; a refused call changes nothing.
+//! Values have one byte form each (docs/TABLES.md), and so have the six tables, whose memory the caller lends.
+//!
+//! [`plain`] has every function on plain numbers and bytes; the types of the other modules stand on it. The crate is `no_std`; the
+//! feature `owned`, on by default, adds tables that own their bytes and needs an allocator.
+#![no_std]
+#![warn(missing_docs)]
+#![warn(unsafe_op_in_unsafe_fn)]
+
+#[cfg(feature = "owned")]
+extern crate alloc;
+
+mod bytes;
+mod ids;
+mod list;
+mod numbers;
+#[cfg(feature = "owned")]
+mod owned;
+mod pageset;
+pub mod plain;
+mod raw;
+mod records;
+mod refusal;
+mod segment;
+mod snapshot;
+mod tables;
+
+pub use bytes::ByteForm;
+pub use ids::{CommitHash, LogId, SegmentId, VolumeId};
+pub use list::List;
+pub use numbers::{Lsn, PageCount, PageIdx};
+#[cfg(feature = "owned")]
+pub use owned::{Capacities, OwnedTable, OwnedTables};
+pub use pageset::{PageSet, Window};
+pub use raw::Reply;
+pub use records::{Checkpoint, Commit, IndexEntry, PendingCommit, PresentPage, Record, SyncPoint, Tag, Volume};
+pub use refusal::Refusal;
+pub use segment::{Frame, Segment, SegmentRange};
+pub use snapshot::{LogRange, Snapshot, changes};
+pub use tables::{Checkpoints, Commits, Index, Presence, Table, Tables, Tags, Volumes};

@@ -1,0 +1,64 @@
+//! The archive's functions, as the Rattle crate `boundary` exports them. `tests/declarations.rs` compares this file with that
+//! crate's source, parameter by parameter.
+//!
+//! How Rattle's parameters cross: `&[u8]` and `&mut [u8]` are two, a pointer and a length; `&[u8; 16]`, `&mut [u8; 16]`, `&mut u32` and
+//! `&mut u64` are one pointer; `&mut &[u8]` is a pointer to a pointer and a length, which is `Part`.
+
+/// What every call answers: document 01's number, and whether an answer was found.
+///
+/// `found` is 1 where there is an answer (or "yes", "new", "joined", "changed"), 0 for nothing and no, and for every refusal.
+#[repr(C)]
+#[derive(Clone, Copy, Debug, PartialEq, Eq)]
+pub struct Reply {
+    /// Document 01's number: 0 is done.
+    pub code: u32,
+    /// 1 where an answer was found, else 0.
+    pub found: u32,
+}
+
+/// A part of a lent slice, as Rattle lays a slice out in memory.
+#[repr(C)]
+pub(crate) struct Part {
+    pub ptr: *const u8,
+    pub len: usize,
+}
+
+#[rustfmt::skip]
+unsafe extern "C" {
+    // numbers
+    pub(crate) fn sigatuda_lsn_next(n: u64, out: *mut u64) -> Reply;
+    pub(crate) fn sigatuda_lsn_prev(n: u64, out: *mut u64) -> Reply;
+    pub(crate) fn sigatuda_lsn_saturating_next(n: u64, out: *mut u64) -> Reply;
+    pub(crate) fn sigatuda_lsn_saturating_prev(n: u64, out: *mut u64) -> Reply;
+    pub(crate) fn sigatuda_page_next(p: u32, out: *mut u32) -> Reply;
+    pub(crate) fn sigatuda_page_prev(p: u32, out: *mut u32) -> Reply;
+    pub(crate) fn sigatuda_count_next(n: u32, out: *mut u32) -> Reply;
+    pub(crate) fn sigatuda_count_prev(n: u32, out: *mut u32) -> Reply;
+    pub(crate) fn sigatuda_count_last_page(n: u32, out: *mut u32) -> Reply;
+    // sets
+    pub(crate) fn sigatuda_set_range(first: u32, last: u32, out: *mut u8, out_len: usize) -> Reply;
+    pub(crate) fn sigatuda_set_insert(set: *const u8, set_len: usize, page: u32, out: *mut u8, out_len: usize) -> Reply;
+    pub(crate) fn sigatuda_set_union(a: *const u8, a_len: usize, b: *const u8, b_len: usize, out: *mut u8, out_len: usize) -> Reply;
+    pub(crate) fn sigatuda_set_size(set: *const u8, set_len: usize, out: *mut u32) -> Reply;
+    pub(crate) fn sigatuda_set_first(set: *const u8, set_len: usize, out: *mut u32) -> Reply;
+    pub(crate) fn sigatuda_set_last(set: *const u8, set_len: usize, out: *mut u32) -> Reply;
+    pub(crate) fn sigatuda_set_contains(set: *const u8, set_len: usize, page: u32) -> Reply;
+    pub(crate) fn sigatuda_set_contains_any(set: *const u8, set_len: usize, first: u32, last: u32) -> Reply;
+    pub(crate) fn sigatuda_set_contains_all(set: *const u8, set_len: usize, first: u32, last: u32) -> Reply;
+    pub(crate) fn sigatuda_set_truncate(set: *const u8, set_len: usize, count: u32, out: *mut u8, out_len: usize) -> Reply;
+    pub(crate) fn sigatuda_set_cut(left: *const u8, left_len: usize, right: *const u8, right_len: usize, common: *mut u8, common_len: usize, rest: *mut u8, rest_len: usize) -> Reply;
+    pub(crate) fn sigatuda_set_remove(set: *const u8, set_len: usize, first: u32, last: u32, out: *mut u8, out_len: usize) -> Reply;
+    // frames
+    pub(crate) fn sigatuda_frame_list(segment: *const u8, segment_len: usize, list: *mut u8, list_len: usize, items: *mut u32) -> Reply;
+    pub(crate) fn sigatuda_frame_of_page(segment: *const u8, segment_len: usize, page: u32, out: *mut u8, out_len: usize) -> Reply;
+    pub(crate) fn sigatuda_frame_bytes(segment: *const u8, segment_len: usize, page: u32, lent: *const u8, lent_len: usize, part: *mut Part) -> Reply;
+    pub(crate) fn sigatuda_join(a: *const u8, a_len: usize, b: *const u8, b_len: usize, out: *mut u8, out_len: usize) -> Reply;
+    // volumes and snapshots
+    pub(crate) fn sigatuda_changes(has_base: u32, base: u64, has_head: u32, head: u64, start: *mut u64, end: *mut u64) -> Reply;
+    pub(crate) fn sigatuda_snapshot_new(log: *const [u8; 16], start: u64, end: u64, count: u32, out: *mut u8, out_len: usize) -> Reply;
+    pub(crate) fn sigatuda_snapshot_append(snapshot: *const u8, snapshot_len: usize, log: *const [u8; 16], start: u64, end: u64, out: *mut u8, out_len: usize) -> Reply;
+    pub(crate) fn sigatuda_snapshot_head(snapshot: *const u8, snapshot_len: usize, log: *mut [u8; 16], lsn: *mut u64) -> Reply;
+    // the integrator
+    pub(crate) fn sigatuda_format() -> u32;
+    pub(crate) fn sigatuda_record_size(table: u32) -> u32;
+}

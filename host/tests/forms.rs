@@ -1,0 +1,138 @@
+//! Byte forms: an independent judge against the archive and against the crate's reading, over random and damaged values and tables.
+mod judge;
+
+use judge::make::Random;
+use judge::{Kind, TABLES, damage, make};
+use sigatuda::*;
+
+/// Each form so many times as it is, and so many times damaged.
+const ROUNDS: usize = 4000;
+
+/// Makes forms, damages every other one up to three times, and hands them on; both good and bad ones must come.
+fn each(
+    seed: u64,
+    make: impl Fn(&mut Random) -> Vec<u8>,
+    spoil: impl Fn(&mut Vec<u8>, &mut Random),
+    mut judged: impl FnMut(&[u8]) -> bool,
+) {
+    let (mut r, mut good, mut bad) = (Random::new(seed), 0, 0);
+    for round in 0..2 * ROUNDS {
+        let mut form = make(&mut r);
+        if round % 2 == 1 {
+            let size = form.len();
+            for _ in 0..=r.below(3) {
+                if form.len() == size {
+                    spoil(&mut form, &mut r);
+                }
+            }
+        }
+        let formed = judged(&form);
+        assert!(formed || round % 2 == 1, "a form as it was made is judged bad: {form:02x?}");
+        *(if formed { &mut good } else { &mut bad }) += 1;
+    }
+    assert!(good > ROUNDS && bad > ROUNDS / 4, "{good} good, {bad} bad");
+}
+
+#[test]
+fn sets() {
+    each(1, make::set, damage::value, |form| {
+        let number = judge::set(form);
+        assert_eq!(plain::set_size(form, &mut 0).code, number, "{form:02x?}");
+        assert_eq!(PageSet::from_bytes(form).map(|s| s.to_bytes().to_vec()).ok(), (number == 0).then(|| form.to_vec()));
+        number == 0
+    });
+}
+
+#[test]
+fn segments() {
+    each(2, make::segment, damage::value, |form| {
+        let number = judge::segment(form);
+        assert_eq!(plain::frame_list(form, &mut [0; 16 * 417], &mut 0).code, number, "{form:02x?}");
+        assert_eq!(Segment::from_bytes(form).map(|s| s.to_bytes().to_vec()).ok(), (number == 0).then(|| form.to_vec()));
+        number == 0
+    });
+}
+
+#[test]
+fn ranges() {
+    each(3, make::range, damage::value, |form| {
+        let number = judge::range(form);
+        assert_eq!(plain::join(form, form, &mut [0; 417]).code, number, "{form:02x?}");
+        assert_eq!(SegmentRange::from_bytes(form).map(|s| s.to_bytes().to_vec()).ok(), (number == 0).then(|| form.to_vec()));
+        number == 0
+    });
+}
+
+#[test]
+fn snapshots() {
+    each(4, make::snapshot, damage::value, |form| {
+        let number = judge::snapshot(form);
+        assert_eq!(plain::snapshot_head(form, &mut [0; 16], &mut 0).code, number, "{form:02x?}");
+        assert_eq!(Snapshot::from_bytes(form).map(|s| s.to_bytes().to_vec()).ok(), (number == 0).then(|| form.to_vec()));
+        number == 0
+    });
+}
+
+/// The records of a kind, judged and read.
+fn records(seed: u64, kind: &Kind, read: impl Fn(&[u8]) -> Option<Vec<u8>>) {
+    each(
+        seed,
+        |r| make::record(kind, r),
+        damage::value,
+        |form| {
+            let in_form = kind.judges(form);
+            assert_eq!(read(form), in_form.then(|| form.to_vec()), "{}: {form:02x?}", kind.name);
+            in_form
+        },
+    );
+}
+
+#[test]
+fn records_of_all_tables() {
+    records(5, &TABLES[0], |b| Volume::from_bytes(b).ok().map(|v| v.to_bytes().to_vec()));
+    records(6, &TABLES[1], |b| Tag::from_bytes(b).ok().map(|v| v.to_bytes().to_vec()));
+    records(7, &TABLES[2], |b| Commit::from_bytes(b).ok().map(|v| v.to_bytes().to_vec()));
+    records(8, &TABLES[3], |b| Checkpoint::from_bytes(b).ok().map(|v| v.to_bytes().to_vec()));
+    records(9, &TABLES[4], |b| IndexEntry::from_bytes(b).ok().map(|v| v.to_bytes().to_vec()));
+    records(10, &TABLES[5], |b| PresentPage::from_bytes(b).ok().map(|v| v.to_bytes().to_vec()));
+}
+
+/// Whether the crate reads bytes as a table: the count fits, each record reads, keys rise.
+fn reads<R: Record>(bytes: &[u8]) -> bool {
+    let mut bytes = bytes.to_vec();
+    let table = Table::<R>::lend(&mut bytes);
+    let Some(held) = table.held() else { return false };
+    let keys: Vec<_> = table.as_bytes()[2..].chunks(R::SIZE).take(held).map(|r| &r[..R::KEY]).collect();
+    table.records().all(|r| r.is_ok()) && keys.windows(2).all(|w| w[0] < w[1])
+}
+
+#[test]
+fn tables() {
+    let readers = [reads::<Volume>, reads::<Tag>, reads::<Commit>, reads::<Checkpoint>, reads::<IndexEntry>, reads::<PresentPage>];
+    for (seed, (kind, reads)) in TABLES.iter().zip(readers).enumerate() {
+        let spoil = |form: &mut Vec<u8>, r: &mut Random| {
+            if form.len() >= 2 {
+                damage::table(kind, form, r);
+            }
+        };
+        each(
+            20 + seed as u64,
+            |r| make::table(kind, r),
+            spoil,
+            |form| {
+                let formed = kind.formed(form);
+                assert_eq!(reads(form), formed, "{}: {form:02x?}", kind.name);
+                formed
+            },
+        );
+    }
+}
+
+#[test]
+fn record_sizes_are_the_archives() {
+    for (table, kind) in TABLES.iter().enumerate() {
+        assert_eq!(plain::record_size(table as u32), kind.record as u32, "{}", kind.name);
+    }
+    assert_eq!((plain::record_size(6), plain::record_size(u32::MAX)), (0, 0));
+    assert_eq!(plain::format(), 1);
+}

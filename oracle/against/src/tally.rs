@@ -1,0 +1,56 @@
+//! What was compared, and what differed.
+use std::collections::BTreeMap;
+use std::time::Instant;
+
+/// The most differences that are written out.
+const SHOWN: u64 = 20;
+
+pub struct Tally {
+    pub compared: u64,
+    pub apart: u64,
+    pub differences: u64,
+    numbers: BTreeMap<u32, u64>,
+    calls: BTreeMap<&'static str, u64>,
+    said: Instant,
+}
+
+impl Tally {
+    pub fn new() -> Self {
+        let (numbers, calls) = (BTreeMap::new(), BTreeMap::new());
+        Tally { compared: 0, apart: 0, differences: 0, numbers, calls, said: Instant::now() }
+    }
+
+    /// Counts a call that the original cannot be asked, or answers otherwise on purpose.
+    pub fn not_compared(&mut self) {
+        self.apart += 1;
+    }
+
+    /// Counts a call, and the difference where there is one.
+    pub fn count(&mut self, call: &'static str, number: u32, difference: Option<String>) {
+        self.compared += 1;
+        *self.numbers.entry(number).or_default() += 1;
+        *self.calls.entry(call).or_default() += 1;
+        if let Some(words) = difference {
+            self.differences += 1;
+            if self.differences <= SHOWN {
+                println!("DIFFERENCE {call}: {words}");
+            }
+        }
+        if self.said.elapsed().as_secs() >= 5 {
+            self.said = Instant::now();
+            eprintln!("{} calls, {} differences", self.compared, self.differences);
+        }
+    }
+
+    /// The counts, and whether all were equal.
+    pub fn end(&self) -> bool {
+        for (call, count) in &self.calls {
+            println!("{call:20} {count}");
+        }
+        let numbers: Vec<_> = self.numbers.iter().map(|(number, count)| format!("{number} ({count})")).collect();
+        println!("numbers reached: {}", numbers.join(" "));
+        println!("not compared: {}", self.apart);
+        println!("{} calls compared, {} differences", self.compared, self.differences);
+        self.compared > 0 && self.differences == 0
+    }
+}
