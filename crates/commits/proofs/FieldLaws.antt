@@ -1,8 +1,8 @@
 -- The fields of a commit where they stand in lent bytes. A form's parts stand one after another, so a field is a part of a part of the record's bytes, and
 -- `part-part` collapses them to one offset of docs/TABLES.md. A missing hash or segment is told by its flag.
-use Prim.Native.Nat.{ℕ, _+_, _-_, _*_, _^_, _<_, _≤_}
+use Prim.Native.Nat.{ℕ, _+_, _-_, _*_, _^_, _≤_}
 use mathlib.Core.Path.{_≡_, refl, sym, ap, ap₂, _∙_}
-use mathlib.Core.List.{List, [], _∷_, _++_, append-nil}
+use mathlib.Core.List.{List, _∷_, _++_, append-nil}
 use mathlib.Core.Option.{Option, none, some}
 use mathlib.Core.Bool.{Bool, true, false, cond, not}
 use native.Mathlib.Omega.{arith}
@@ -15,7 +15,7 @@ use Rattle.octets.specs.declared.Order.{Order}
 use Rattle.octets.specs.declared.Order.the-variants.{Less, Equal, Greater}
 use Rattle.octets.proofs.Numbers as N
 use Rattle.octets.proofs.Places as P
-use Rattle.core.proofs.OrderLaws.{ordering-lex}
+use Rattle.core.proofs.OrderLaws.{part-whole, ordering-lex}
 use Rattle.rules.specs.Records.{Id, Hash, Commit}
 use Rattle.rules.specs.Tables.{sameId}
 use Rattle.rules.specs.Lists.{isSome}
@@ -53,17 +53,14 @@ equal-order Greater = refl
 pub same-bytes : (a b : List ℕ) → isEqual (lex a b) ≡ sameId a b
 same-bytes a b = equal-order (lex a b) ∙ ap isEq (ordering-lex a b)
 
-whole : (k : ℕ) (a : List ℕ) → length a ≡ k → part 0 k a ≡ a
-whole k a e = ap (λ (n : ℕ). part 0 n a) (sym e) ∙ P.part-all a
-
 -- a value behind its flag
-abbrev flagged : {A : Type 0} → ℕ → A → Option A
-flagged n x = cond (eqb n 0) none (some x)
+abbrev behindFlag : {A : Type 0} → ℕ → A → Option A
+behindFlag n x = cond (eqb n 0) none (some x)
 
-flag-off : {A : Type 0} (n : ℕ) (x : A) → n ≡ 0 → flagged n x ≡ none
+flag-off : {A : Type 0} (n : ℕ) (x : A) → n ≡ 0 → behindFlag n x ≡ none
 flag-off n x h = rw (eq-eqb n 0 h)
 
-flag-on : {A : Type 0} (n : ℕ) (x : A) → (n ≡ 0 → ⊥) → flagged n x ≡ some x
+flag-on : {A : Type 0} (n : ℕ) (x : A) → (n ≡ 0 → ⊥) → behindFlag n x ≡ some x
 flag-on n x h = rw (ne-eqb n 0 h)
 
 flag-some : {A : Type 0} (z : Bool) (x : A) → not z ≡ isSome (cond z none (some x))
@@ -97,17 +94,17 @@ module _ (t : List ℕ) (i at : ℕ) (p : at ≡ 2 + i * 722) where
   unfolding commitBytes logLsnBytes segmentBytes setBytes framesBytes windowBytes frameBytes
   count-there = ap (λ (c : Commit). c .count) here ∙ ap be (P.part-part 25 697 0 4 (part at 722 t) (omega arith) ∙ field 25 4 (omega arith))
 
-  hash-there : commitAt t i .hash ≡ flagged (be (part (at + 29) 1 t)) (part (at + 30) 32 t)
+  hash-there : commitAt t i .hash ≡ behindFlag (be (part (at + 29) 1 t)) (part (at + 30) 32 t)
   unfolding commitBytes logLsnBytes segmentBytes setBytes framesBytes windowBytes frameBytes
   hash-there =
       let b : List ℕ = part at 722 t in
       let h : part 0 33 (part 4 693 (part 25 697 b)) ≡ part 29 33 b = ap (part 0 33) (P.part-part 25 697 4 693 b (omega arith)) ∙ P.part-part 29 693 0 33 b (omega arith) in
       ap (λ (c : Commit). c .hash) here
-      ∙ ap₂ (λ (x y : List ℕ). flagged (be x) y)
+      ∙ ap₂ (λ (x y : List ℕ). behindFlag (be x) y)
       (ap (part 0 1) h ∙ P.part-part 29 33 0 1 b (omega arith) ∙ field 29 1 (omega arith))
       (ap (part 1 32) h ∙ P.part-part 29 33 1 32 b (omega arith) ∙ field 30 32 (omega arith))
 
-  segment-there : commitAt t i .segment ≡ flagged (be (part (at + 62) 1 t)) (segmentBytes .read (part (at + 63) 594 t))
+  segment-there : commitAt t i .segment ≡ behindFlag (be (part (at + 62) 1 t)) (segmentBytes .read (part (at + 63) 594 t))
   unfolding commitBytes logLsnBytes segmentBytes setBytes framesBytes windowBytes frameBytes
   segment-there =
       let b : List ℕ = part at 722 t in
@@ -116,7 +113,7 @@ module _ (t : List ℕ) (i at : ℕ) (p : at ≡ 2 + i * 722) where
       ∙ ap (part 0 595) (P.part-part 29 693 33 660 b (omega arith))
       ∙ P.part-part 62 660 0 595 b (omega arith) in
       ap (λ (c : Commit). c .segment) here
-      ∙ ap₂ (λ (x y : List ℕ). flagged (be x) (segmentBytes .read y))
+      ∙ ap₂ (λ (x y : List ℕ). behindFlag (be x) (segmentBytes .read y))
       (ap (part 0 1) h ∙ P.part-part 62 595 0 1 b (omega arith) ∙ field 62 1 (omega arith))
       (ap (part 1 594) h ∙ P.part-part 62 595 1 594 b (omega arith) ∙ field 63 594 (omega arith))
 
@@ -138,7 +135,7 @@ module _ (t : List ℕ) (i at : ℕ) (p : at ≡ 2 + i * 722) where
   module _ (id : Id) (l : length id ≡ 16) where
     -- the log
     pub log-test : (r : Bool) → r ≡ isEqual (lex (part 0 16 id) (part (at + 1) 16 t)) → r ≡ sameId id (commitAt t i .log)
-    log-test r e = e ∙ same-bytes (part 0 16 id) (part (at + 1) 16 t) ∙ ap₂ sameId (whole 16 id l) (sym log-there)
+    log-test r e = e ∙ same-bytes (part 0 16 id) (part (at + 1) 16 t) ∙ ap₂ sameId (part-whole id 16 l) (sym log-there)
 
     -- the segment's identifier
     pub sid-missing : (n : ℕ) → n ≡ be (part (at + 62) 1 t) → n ≡ 0 → false ≡ hasSid id (commitAt t i .segment)
@@ -147,12 +144,12 @@ module _ (t : List ℕ) (i at : ℕ) (p : at ≡ 2 + i * 722) where
     pub sid-test : (n : ℕ) (r : Bool) → n ≡ be (part (at + 62) 1 t) → (n ≡ 0 → ⊥) → r ≡ isEqual (lex (part 0 16 id) (part (at + 63) 16 t))
         → r ≡ hasSid id (commitAt t i .segment)
     sid-test n r e z h =
-        h ∙ same-bytes (part 0 16 id) (part (at + 63) 16 t) ∙ ap₂ sameId (whole 16 id l) (sym sid-there)
+        h ∙ same-bytes (part 0 16 id) (part (at + 63) 16 t) ∙ ap₂ sameId (part-whole id 16 l) (sym sid-there)
         ∙ sym (ap (hasSid id) (segment-there ∙ flag-on (be (part (at + 62) 1 t)) (segmentBytes .read (part (at + 63) 594 t)) (λ q. z (e ∙ q))))
 
   -- whether there is a segment
   pub segment-test : (n : ℕ) → n ≡ be (part (at + 62) 1 t) → not (eqb n 0) ≡ isSome (commitAt t i .segment)
-  segment-test n e = flag-some (eqb n 0) (segmentBytes .read (part (at + 63) 594 t)) ∙ sym (ap isSome (segment-there ∙ ap (λ (m : ℕ). flagged m (segmentBytes .read (part (at + 63) 594 t))) (sym e)))
+  segment-test n e = flag-some (eqb n 0) (segmentBytes .read (part (at + 63) 594 t)) ∙ sym (ap isSome (segment-there ∙ ap (λ (m : ℕ). behindFlag m (segmentBytes .read (part (at + 63) 594 t))) (sym e)))
 
   -- the hash
   module _ (hash : Hash) (l : length hash ≡ 32) where
@@ -162,5 +159,5 @@ module _ (t : List ℕ) (i at : ℕ) (p : at ≡ 2 + i * 722) where
     pub hash-test : (n : ℕ) (r : Bool) → n ≡ be (part (at + 29) 1 t) → (n ≡ 0 → ⊥) → r ≡ isEqual (lex (part (at + 30) 32 t) (part 0 32 hash))
         → r ≡ isHash (commitAt t i .hash) hash
     hash-test n r e z h =
-        h ∙ same-bytes (part (at + 30) 32 t) (part 0 32 hash) ∙ ap (sameId (part (at + 30) 32 t)) (whole 32 hash l)
+        h ∙ same-bytes (part (at + 30) 32 t) (part 0 32 hash) ∙ ap (sameId (part (at + 30) 32 t)) (part-whole hash 32 l)
         ∙ sym (ap (λ (o : Option Hash). isHash o hash) (hash-there ∙ flag-on (be (part (at + 29) 1 t)) (part (at + 30) 32 t) (λ q. z (e ∙ q))))

@@ -2,8 +2,8 @@
 use Prim.Native.Nat.{ℕ, zero, suc, Ordering}
 use mathlib.Core.Path.{_≡_, refl, sym, ap, _∙_}
 use mathlib.Core.List.{List, [], _∷_}
-use mathlib.Core.Bool.{Bool, true, false, _&&_}
-use mathlib.Core.Option.{Option, none, some}
+use mathlib.Core.Bool.{Bool, true}
+use mathlib.Core.Option.{Option, some}
 use native.Mathlib.Omega.{arith}
 use Rattle.core.specs.Orders.{isLt}
 use Rattle.core.proofs.OrderLaws.{Lawful}
