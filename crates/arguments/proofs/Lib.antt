@@ -1,3 +1,4 @@
 pub mod ArgLaws
 pub mod EarlyLaws
 pub mod SetLaws
+pub mod SnapshotLaws

@@ -1,3 +1,4 @@
 pub mod Args
 pub mod Replies
 pub mod Sets
+pub mod Snapshots

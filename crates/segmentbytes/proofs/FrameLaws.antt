@@ -23,7 +23,7 @@ use Rattle.segmentbytes.specs.Laid.{framesAt, frameLaid, framesLaid, IsL
 
 pub frame-at : (at : ℕ) (s : List ℕ) → frameBytes .read (part at 12 s) ≡ record { size = be (part at 8 s); last = be (part (at + 8) 4 s) }
 unfolding frameBytes
-frame-at at s = ap frameOf (pair-read s at (number 8) (number 4))
+frame-at at s = ap frameOf (pair-read s at (number 8) (number 4) (at + 8) refl)
 
 pub frame-steady : Steady frameBytes
 unfolding frameBytes

@@ -35,7 +35,7 @@ module _ {A B : Type 0} (c : Codec A) (d : Codec B) (f : A → Bool) (g : A → 
       ap (λ (u : Bool). u && (f (c .read (part 0 (c .size) b)) && g (c .read (part 0 (c .size) b)) (d .read (part (c .size) (d .size) b))))
       (pair-spelled c d st b (P.length-part at (c .size + d .size) s h))
       ∙ mixed (spelled c (part 0 (c .size) b)) (spelled d (part (c .size) (d .size) b)) (f (c .read (part 0 (c .size) b))) (g (c .read (part 0 (c .size) b)) (d .read (part (c .size) (d .size) b)))
-      ∙ ap₂ (λ (x y : List ℕ). (spelled c x && f (c .read x)) && (spelled d y && g (c .read x) (d .read y))) (front s at (c .size) (d .size)) (behind s at (c .size) (d .size))
+      ∙ ap₂ (λ (x y : List ℕ). (spelled c x && f (c .read x)) && (spelled d y && g (c .read x) (d .read y))) (front s at (c .size) (d .size)) (behind s at (c .size) (d .size) (at + c .size) refl)
     where
       mixed : (p q u v : Bool) → (p && q) && (u && v) ≡ (p && u) && (q && v)
       mixed true true u v = refl
@@ -53,9 +53,9 @@ module _ (s : List ℕ) (at : ℕ) where
   unfolding segmentBytes setBytes windowBytes framesBytes frameBytes
   segment-at =
       ap segmentOf
-      (pair-read s at idBytes (pair setBytes framesBytes)
+      (pair-read s at idBytes (pair setBytes framesBytes) (at + 16) refl
       ∙ ap (λ (x : Pages × List Frame). (part at 16 s, x))
-      (pair-read s (at + 16) setBytes framesBytes ∙ ap (λ (k : ℕ). (setBytes .read (part (at + 16) 385 s), framesBytes .read (part k 193 s))) behind-set))
+      (pair-read s (at + 16) setBytes framesBytes (at + 401) behind-set))
 
   module _ (ab : AreBytes s) (h : at + 594 ≤ length s) where
     form-is : inForm segmentBytes segmentForm (part at 594 s)
@@ -63,7 +63,7 @@ module _ (s : List ℕ) (at : ℕ) where
     unfolding segmentBytes setBytes windowBytes framesBytes frameBytes segmentForm listsForm
     form-is =
         viewed-form (pair idBytes (pair setBytes framesBytes)) segmentOf segmentParts segmentForm (part at 594 s) (λ x. refl)
-        ∙ pair-at s ab at idBytes (pair setBytes framesBytes) idForm (λ x. normalForm (x .0) && framesForm (x .0) (x .1)) (raw-steady 16) h
+        ∙ pair-at s ab at idBytes (pair setBytes framesBytes) idForm (λ x. normalForm (x .0) && framesForm (x .0) (x .1)) (at + 16) (raw-steady 16) refl (omega arith)
         ∙ ap₂ _&&_ (raw-at s ab at 16 (omega arith)) (pair-with setBytes framesBytes normalForm framesForm set-steady s (at + 16) (omega arith))
         ∙ ap (λ (k : ℕ). inForm setBytes normalForm (part (at + 16) 385 s) && inForm framesBytes (framesForm (setBytes .read (part (at + 16) 385 s))) (part k 193 s)) behind-set
 
@@ -103,11 +103,10 @@ module _ (s : List ℕ) (at : ℕ) where
       let e : at + 16 + 8 ≡ at + 24 = omega arith in
       let f : at + 24 + 8 ≡ at + 32 = omega arith in
       ap partOf
-      (pair-read s at idBytes (pair (number 8) (pair (number 8) setBytes))
+      (pair-read s at idBytes (pair (number 8) (pair (number 8) setBytes)) (at + 16) refl
       ∙ ap (λ (x : ℕ × (ℕ × Pages)). (part at 16 s, x))
-      (pair-read s (at + 16) (number 8) (pair (number 8) setBytes)
-      ∙ ap (λ (k : ℕ). (be (part (at + 16) 8 s), pair (number 8) setBytes .read (part k 393 s))) e
-      ∙ ap (λ (x : ℕ × Pages). (be (part (at + 16) 8 s), x)) (pair-read s (at + 24) (number 8) setBytes ∙ ap (λ (k : ℕ). (be (part (at + 24) 8 s), setBytes .read (part k 385 s))) f)))
+      (pair-read s (at + 16) (number 8) (pair (number 8) setBytes) (at + 24) e
+      ∙ ap (λ (x : ℕ × Pages). (be (part (at + 16) 8 s), x)) (pair-read s (at + 24) (number 8) setBytes (at + 32) f)))
 
   pub range-form-is : AreBytes s → at + 417 ≤ length s → inForm setBytes normalForm (part (at + 32) 385 s) ≡ inForm partBytes partForm (part at 417 s)
   unfolding partBytes setBytes windowBytes
@@ -117,12 +116,12 @@ module _ (s : List ℕ) (at : ℕ) where
       λ k l. free (number 8) (part k 8 s) (number-spelled 8 (part k 8 s) (P.bytes-part k 8 s ab) (P.length-part k 8 s l)) in
       sym
       (viewed-form (pair idBytes (pair (number 8) (pair (number 8) setBytes))) partOf partParts partForm (part at 417 s) (λ x. refl)
-      ∙ pair-at s ab at idBytes (pair (number 8) (pair (number 8) setBytes)) (λ _. true) (λ x. normalForm (x .1 .1)) (raw-steady 16) h
+      ∙ pair-at s ab at idBytes (pair (number 8) (pair (number 8) setBytes)) (λ _. true) (λ x. normalForm (x .1 .1)) (at + 16) (raw-steady 16) refl (omega arith)
       ∙ ap₂ _&&_ (free idBytes (part at 16 s) (raw-spelled 16 (part at 16 s)))
-      (pair-at s ab (at + 16) (number 8) (pair (number 8) setBytes) (λ _. true) (λ x. normalForm (x .1)) (number-steady 8) (omega arith)
+      (pair-at s ab (at + 16) (number 8) (pair (number 8) setBytes) (λ _. true) (λ x. normalForm (x .1)) (at + 16 + 8) (number-steady 8) refl (omega arith)
       ∙ ap₂ _&&_ (num (at + 16) (omega arith))
-      (pair-at s ab (at + 16 + 8) (number 8) setBytes (λ _. true) normalForm (number-steady 8) (omega arith)
-      ∙ ap₂ (λ (t : Bool) (k : ℕ). t && inForm setBytes normalForm (part k 385 s)) (num (at + 16 + 8) (omega arith)) e)))
+      (pair-at s ab (at + 16 + 8) (number 8) setBytes (λ _. true) normalForm (at + 32) (number-steady 8) e (omega arith)
+      ∙ ap (λ (t : Bool). t && inForm setBytes normalForm (part (at + 32) 385 s)) (num (at + 16 + 8) (omega arith)))))
 
 -- its four stores
 pub range-stored : (at : ℕ) (x : Part) (s t u v w : List ℕ) → length (x .sid) ≡ 16 → length (setBytes .spell (x .pages)) ≡ 385 → at + 417 ≤ length s

@@ -31,7 +31,7 @@ two-free j k b ab e =
 
 pub window-at : (at : ℕ) (s : List ℕ) → windowBytes .read (part at 12 s) ≡ record { index = be (part at 4 s); mask = be (part (at + 4) 8 s) }
 unfolding windowBytes
-window-at at s = ap windowOf (pair-read s at (number 4) (number 8))
+window-at at s = ap windowOf (pair-read s at (number 4) (number 8) (at + 4) refl)
 
 pub window-steady : Steady windowBytes
 unfolding windowBytes

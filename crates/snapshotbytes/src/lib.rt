@@ -116,10 +116,11 @@ fn path_write(s: &mut [u8], at: usize, path: [LogRange; 8])
     }
 }
 
-// A snapshot in form over the bytes at a place.
+// A snapshot in form over the bytes at a place. (It has 262 bytes.)
 pub fn snapshot_write(s: &mut [u8], at: usize, snapshot: Snapshot)
     requires { ⌜ (at + 262 ≤ length (now s)) × (inForm snapshot ≡ true) ⌝ }
     ensures { λ _. ⌜ now (s .exit) ≡ put at (snapshotBytes .spell (snapshotSays snapshot)) (now (s .entry)) ⌝ }
+    ensures { λ _. ⌜ length (snapshotBytes .spell (snapshotSays snapshot)) ≡ 262 ⌝ }
 {
     let path = snapshot.path;
     octets::store8(s, at, 0);

@@ -1,6 +1,6 @@
 -- The fields of a snapshot, one after another.
 use borrow.Author.Needs.{needs}
-use mathlib.Core.Path.{_≡_, ap, _∙_}
+use mathlib.Core.Path.{_≡_, sym, ap, _∙_}
 use native.Mathlib.Omega.{arith}
 use lib.ListN.{length}
 use Rattle.octets.specs.Bytes.{put}
@@ -50,7 +50,8 @@ returns c =
     let two = then-stored one 4 _ (length-bytesOf 4 (x .count .0)) (omega arith) (c .before .before .before .before .before .before .before .before .before .before .before .store32 .ensures) in
     let three = then-stored two 1 _ (length-bytesOf 1 (x .len)) (omega arith) (c .before .before .before .before .before .before .store82 .ensures) in
     let four = then-stored three 256 _ (c .before .before .path-write .ensures .1) (omega arith) (c .before .before .path-write .ensures .0) in
-    four .bytes ∙ ap (λ l. put (a .at) l (a .s .now)) (spell-is x l (c .before .before .before .before .before .before .before .before .before .before .before .before .before .before .before .before .before .before .before .pre .1))
+    let e = spell-is x l (c .before .before .before .before .before .before .before .before .before .before .before .before .before .before .before .before .before .before .before .pre .1) in
+    (four .bytes ∙ ap (λ l. put (a .at) l (a .s .now)) e, sym (ap length e) ∙ four .long)
 
 pub snapshot-write-spec : {M : Type 1} → statement M
 snapshot-write-spec =

@@ -1,4 +1,5 @@
 -- The tests are those of the definition, in its order; a set in normal form fills its lent slice. Assumes nothing.
+use Rattle.setbytes.proofs.LaidLaws.{laid-says}
 use mathlib.Core.Path.{ap₂, _∙_}
 use Prim.Native.Nat.{ℕ}
 use mathlib.Core.List.{List}
@@ -18,10 +19,10 @@ returns-3 : tie.Need-returns-3
 returns-3 c = cut-short-2 _ _ _ (c .before .before .if1 .left) (c .before .if2 .left) (c .if3 .taken)
 
 set-write-requires : tie.Need-set-write-requires
-set-write-requires c κs = search needs
+set-write-requires c κs = (search needs, laid-says (c .before .before .before .before .before .before .before .before .args .a .common) (c .before .before .before .before .before .before .before .before .pre .0))
 
 set-write-requires-2 : tie.Need-set-write-requires-2
-set-write-requires-2 c κs = search needs
+set-write-requires-2 c κs = (search needs, laid-says (c .before .before .before .before .before .before .before .before .before .before .before .before .args .a .left) (c .before .before .before .before .before .before .before .before .before .before .before .before .pre .1))
 
 same-length : tie.Need-same-length
 same-length c = search needs

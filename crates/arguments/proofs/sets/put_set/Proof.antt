@@ -1,4 +1,5 @@
 -- The tests are those of the definition, in its order; a set in normal form fills the lent slice. Assumes nothing.
+use Rattle.setbytes.proofs.LaidLaws.{laid-says}
 use mathlib.Core.Path.{sym, ap, _∙_}
 use Prim.Native.Nat.{ℕ}
 use mathlib.Core.List.{List}
@@ -21,7 +22,7 @@ returns-3 : tie.Need-returns-3
 returns-3 c = put-22 _ _ _ (sym (c .before .before .before .is-early .ensures) ∙ c .before .before .if1 .left) (c .before .if2 .left) (c .if3 .taken)
 
 set-write-requires : tie.Need-set-write-requires
-set-write-requires c κs = search needs
+set-write-requires c κs = (search needs, laid-says (c .before .before .before .before .before .before .before .args .a .set) (c .before .before .before .before .before .before .before .pre))
 
 same-length : tie.Need-same-length
 same-length c = search needs
