@@ -1,0 +1,2 @@
+-- The laws of the calls' answers.
+pub mod CallLaws
