@@ -55,11 +55,11 @@ segment-steady =
 
 module _ {A B : Type 0} (c : Codec A) (d : Codec B) (s : List ℕ) (at next : ℕ) (e : at + c .size ≡ next) where
   read-next : pair c d .read (part at (c .size + d .size) s) ≡ (c .read (part at (c .size) s), d .read (part next (d .size) s))
-  read-next = pair-read s at c d ∙ ap (λ (k : ℕ). (c .read (part at (c .size) s), d .read (part k (d .size) s))) e
+  read-next = pair-read s at c d next e
 
   form-next : (f : A → Bool) (g : B → Bool) → Steady c → AreBytes s → at + (c .size + d .size) ≤ length s
       → inForm (pair c d) (λ x. f (x .0) && g (x .1)) (part at (c .size + d .size) s) ≡ inForm c f (part at (c .size) s) && inForm d g (part next (d .size) s)
-  form-next f g st ab h = pair-at s ab at c d f g st h ∙ ap (λ (k : ℕ). inForm c f (part at (c .size) s) && inForm d g (part k (d .size) s)) e
+  form-next f g st ab h = pair-at s ab at c d f g next st e (omega arith)
 
 -- ---- the fields
 
@@ -88,7 +88,7 @@ module _ (s : List ℕ) (at : ℕ) where
   unfolding commitBytes logLsnBytes segmentBytes setBytes windowBytes framesBytes frameBytes
   commit-at =
       ap commitOf
-      (pair-read s at logLsnBytes counted
+      (pair-read s at logLsnBytes counted (at + 25) refl
       ∙ ap₂ (λ (k : List ℕ × ℕ) (r : ℕ × (Option R.Hash × (Option R.Segment × List ℕ))). (k, r)) (key-at s at)
       (read-next (number 4) hashed s (at + 25) (at + 29) (omega arith)
       ∙ ap (λ (r : Option R.Hash × (Option R.Segment × List ℕ)). (be (part (at + 25) 4 s), r))
@@ -115,7 +115,7 @@ module _ (s : List ℕ) (at : ℕ) where
         ∙ same-form (pair logLsnBytes counted) (λ x. commitForm (commitOf x))
         (λ x. keyForm (x .0) && (countForm (x .1 .0) && (given hashForm (x .1 .1 .0) && (given segmentForm (x .1 .1 .1 .0) && lsnsForm (x .1 .1 .1 .1))))) (part at 722 s)
         (λ x. regroup (idForm (x .0 .0)) (lsnForm (x .0 .1)) (countForm (x .1 .0)) (given hashForm (x .1 .1 .0)) (given segmentForm (x .1 .1 .1 .0)) (leb (length (x .1 .1 .1 .1)) 8) (all lsnForm (x .1 .1 .1 .1)))
-        ∙ pair-at s ab at logLsnBytes counted keyForm (λ r. countForm (r .0) && (given hashForm (r .1 .0) && (given segmentForm (r .1 .1 .0) && lsnsForm (r .1 .1 .1)))) key-steady h
+        ∙ pair-at s ab at logLsnBytes counted keyForm (λ r. countForm (r .0) && (given hashForm (r .1 .0) && (given segmentForm (r .1 .1 .0) && lsnsForm (r .1 .1 .1)))) (at + 25) key-steady refl (omega arith)
         ∙ ap (λ (t : Bool). inForm logLsnBytes keyForm (part at 25 s) && t)
         (form-next (number 4) hashed s (at + 25) (at + 29) (omega arith) countForm (λ r. given hashForm (r .0) && (given segmentForm (r .1 .0) && lsnsForm (r .1 .1))) (number-steady 4) ab (omega arith)
         ∙ ap₂ _&&_ count-is

@@ -49,8 +49,7 @@ module _ (s : List ℕ) (at : ℕ) where
   key-at =
       let e : at + 1 + 16 ≡ at + 17 = omega arith in
       reserved-read s at (pair idBytes (complement 8))
-      ∙ pair-read s (at + 1) idBytes (complement 8)
-      ∙ ap (λ (k : ℕ). (part (at + 1) 16 s, 256 ^ 8 - 1 - be (part k 8 s))) e
+      ∙ pair-read s (at + 1) idBytes (complement 8) (at + 17) e
 
   module _ (ab : AreBytes s) (h : at + 25 ≤ length s) where
     -- a complement that is not the highest number
@@ -72,8 +71,8 @@ module _ (s : List ℕ) (at : ℕ) where
         let e : at + 1 + 16 ≡ at + 17 = omega arith in
         reserved-at s ab at (pair idBytes (complement 8)) keyForm h
         ∙ ap (λ (t : Bool). eqb (be (part at 1 s)) 0 && t)
-        (pair-at s ab (at + 1) idBytes (complement 8) idForm lsnForm (raw-steady 16) (omega arith)
-        ∙ ap₂ (λ (t : Bool) (k : ℕ). t && inForm (complement 8) lsnForm (part k 8 s)) (raw-at s ab (at + 1) 16 (omega arith)) e
+        (pair-at s ab (at + 1) idBytes (complement 8) idForm lsnForm (at + 17) (raw-steady 16) e (omega arith)
+        ∙ ap (λ (t : Bool). t && inForm (complement 8) lsnForm (part (at + 17) 8 s)) (raw-at s ab (at + 1) 16 (omega arith))
         ∙ lsn-is)
 
     pub key-reserved : (be (part at 1 s) ≡ 0 → ⊥) → inForm logLsnBytes keyForm (part at 25 s) ≡ false

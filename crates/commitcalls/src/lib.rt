@@ -1,6 +1,7 @@
 // The calls that read commits. Each answers on every input: 20 where the lent table is not one, then 1, then 3 for a lent place of another
 // size than a record, then the record or nothing. A record goes to lent bytes, in its table form.
 use commits::Place;
+use commits::commits_formed;
 use core::id::LogId;
 use core::lsn::Lsn;
 use core::lsn::MaybeLsnAnswer;
@@ -30,12 +31,6 @@ pub enum FoundAnswer {
     Refused(u32),
     Found,
     Nothing,
-}
-
-fn commits_formed(t: &[u8]) -> bool
-    ensures { λ r. ⌜ r ≡ commitsOk (now (t .entry)) ⌝ }
-{
-    t.len() == 5
 }
 
 // The LSN of the log's latest commit, its highest: 20.

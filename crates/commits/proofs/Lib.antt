@@ -1,4 +1,5 @@
--- The laws that other crates cite. `FieldLaws`: the fields of a commit where they stand in lent bytes, and the bytes of its key; `LookLaws`: what a search in
--- the table finds, and what a place says to a caller.
-pub mod FieldLaws
+-- The laws that other crates cite. `RowLaws`: the bytes of a key, and a row where it begins; `LookLaws`: what a search in the table finds, and what a place says to
+-- a caller; `OnePlace`: a lookup has one answer.
+pub mod RowLaws
 pub mod LookLaws
+pub mod OnePlace

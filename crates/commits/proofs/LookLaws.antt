@@ -8,7 +8,7 @@ use mathlib.Core.Bool.{Bool, true, false, cond}
 use native.Mathlib.Omega.{arith}
 use lib.ListN.{length}
 use Rattle.core.specs.Numbers.{lastLsn}
-use Rattle.rules.specs.Records.{Id, Commit, Range}
+use Rattle.rules.specs.Records.{Id, Commit}
 use Rattle.rules.specs.Tables.{sameId, getCommit, latest}
 use Rattle.table.specs.Records.{spot, place}
 use Rattle.table.specs.Table.{countOf, recs}

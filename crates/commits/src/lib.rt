@@ -1,4 +1,7 @@
 // The table of commits in lent bytes: its keys, where a commit stands, and single fields of a stored commit, read where they stand.
+use commit::Presence;
+use commitbytes::commit_form;
+use commitbytes::fields;
 use core::id::LogId;
 use core::id::SegmentId;
 use layout::COMMIT;
@@ -20,6 +23,24 @@ ghost use Rattle.commits.specs.Places.{commitAt, PlaceOf, RunOfRange};
 pub enum Place {
     At(usize),
     Missing,
+}
+
+// Whether bytes are a table of commits: their count, the order of their keys and the form of each (20).
+pub fn commits_formed(t: &[u8]) -> bool
+    ensures { λ r. ⌜ r ≡ commitsOk (now (t .entry)) ⌝ }
+{
+    if !table::well_ordered(t, COMMIT, COMMIT_KEY) {
+        return false;
+    }
+    let n = table::count(t);
+    let mut i: usize = 0;
+    while i < n {
+        if !commit_form(t, 2 + i * COMMIT) {
+            return false;
+        }
+        i += 1;
+    }
+    true
 }
 
 // The bytes of a commit's key: a reserved byte, the log, and the LSN complemented.
@@ -47,8 +68,8 @@ pub fn lsn_at(t: &[u8], i: usize) -> u64
     requires { ⌜ (commitsOk (now t) ≡ true) × (i < countOf (now t)) ⌝ }
     ensures { λ r. ⌜ r ≡ commitAt (now (t .entry)) i .lsn ⌝ }
 {
-    let at = row(t, i);
-    18446744073709551615 - octets::load64(t, at + 17)
+    let lsn = fields::commit_lsn(t, row(t, i));
+    lsn.0
 }
 
 // Its page count.
@@ -56,8 +77,8 @@ pub fn count_at(t: &[u8], i: usize) -> u32
     requires { ⌜ (commitsOk (now t) ≡ true) × (i < countOf (now t)) ⌝ }
     ensures { λ r. ⌜ r ≡ commitAt (now (t .entry)) i .count ⌝ }
 {
-    let at = row(t, i);
-    octets::load32(t, at + 25)
+    let count = fields::commit_count(t, row(t, i));
+    count.0
 }
 
 // Whether it is a commit of that log.
@@ -65,8 +86,7 @@ pub fn log_is(t: &[u8], i: usize, log: LogId) -> bool
     requires { ⌜ (commitsOk (now t) ≡ true) × (i < countOf (now t)) ⌝ }
     ensures { λ r. ⌜ r ≡ sameId log (commitAt (now (t .entry)) i .log) ⌝ }
 {
-    let at = row(t, i);
-    octets::same(&log, 0, t, at + 1, 16)
+    octets::same(&log, 0, t, row(t, i) + 1, 16)
 }
 
 // Whether its hash is there and is that one.
@@ -74,11 +94,7 @@ pub fn hash_is(t: &[u8], i: usize, hash: [u8; 32]) -> bool
     requires { ⌜ (commitsOk (now t) ≡ true) × (i < countOf (now t)) ⌝ }
     ensures { λ r. ⌜ r ≡ isHash (commitAt (now (t .entry)) i .hash) hash ⌝ }
 {
-    let at = row(t, i);
-    if octets::load8(t, at + 29) == 0 {
-        return false;
-    }
-    octets::same(t, at + 30, &hash, 0, 32)
+    fields::commit_hash_is(t, row(t, i), hash)
 }
 
 // Whether it has a segment.
@@ -86,8 +102,10 @@ pub fn has_segment_at(t: &[u8], i: usize) -> bool
     requires { ⌜ (commitsOk (now t) ≡ true) × (i < countOf (now t)) ⌝ }
     ensures { λ r. ⌜ r ≡ isSome (commitAt (now (t .entry)) i .segment) ⌝ }
 {
-    let at = row(t, i);
-    octets::load8(t, at + 62) != 0
+    match fields::commit_has_segment(t, row(t, i)) {
+        Presence::Given => true,
+        Presence::Missing => false,
+    }
 }
 
 // Whether its segment is there and has that identifier.
@@ -95,11 +113,7 @@ pub fn sid_is(t: &[u8], i: usize, sid: SegmentId) -> bool
     requires { ⌜ (commitsOk (now t) ≡ true) × (i < countOf (now t)) ⌝ }
     ensures { λ r. ⌜ r ≡ hasSid sid (commitAt (now (t .entry)) i .segment) ⌝ }
 {
-    let at = row(t, i);
-    if octets::load8(t, at + 62) == 0 {
-        return false;
-    }
-    octets::same(&sid, 0, t, at + 63, 16)
+    fields::commit_sid_is(t, row(t, i), sid)
 }
 
 // ---- lookups

@@ -1,43 +1,36 @@
+-- `commitcalls::commit_read` meets its contract: 20, 1, 3, then the record that `find_commit` finds.
+use mathlib.Core.Path.{sym, _∙_}
+use borrow.Author.Tests.{not-true, not-false}
+use Rattle.layout.specs.Records.{commitBytes}
+use Rattle.commitcalls.proofs.CallLaws.{not-formed, commit-read-zero, commit-read-done, refused-before, refused-3, answered}
 use borrow.Author.Needs.{needs}
 use Rattle.commitcalls.proofs.commit_read.Statement.{statement}
 use Rattle.commitcalls.proofs.commit_read.Tie as tie
-use Rattle.commitcalls.proofs.commit_read.Reads as reads
-use Rattle.commitcalls.proofs.commit_read.Lts as lts
-use Rattle.commitcalls.proofs.commits_formed.Reads as commits-formed-reads
-use Rattle.commitcalls.proofs.write_found.Reads as write-found-reads
-use Rattle.commits.proofs.find_commit.Reads as find-commit-reads
 
--- src/lib.rt:89:9
 commits-formed-requires : tie.Need-commits-formed-requires
 commits-formed-requires c κs = search needs
 
--- src/lib.rt:90:9
 returns : tie.Need-returns
-returns c = ?
+returns c = refused-before commitBytes (c .before .before .before .before .args .out .now) 722 _ 20 (sym (not-formed _ _ (sym (c .before .commits-formed .ensures) ∙ not-true _ (c .if1 .taken))))
 
--- src/lib.rt:94:9
 returns-2 : tie.Need-returns-2
-returns-2 c = ?
+returns-2 c = refused-before commitBytes (c .before .before .before .before .before .args .out .now) 722 _ 1 (commit-read-zero (c .before .before .before .before .before .args .commits .now) (sym (c .before .before .commits-formed .ensures) ∙ not-false _ (c .before .if1 .left)) (c .before .before .before .before .before .args .log) (c .before .before .before .before .before .args .lsn .0) (c .if2 .taken))
 
--- src/lib.rt:97:9
 returns-3 : tie.Need-returns-3
-returns-3 c = ?
+returns-3 c = refused-3 commitBytes (c .before .before .before .before .before .before .args .out .now) 722 _ _ (commit-read-done (c .before .before .before .before .before .before .args .commits .now) (sym (c .before .before .before .commits-formed .ensures) ∙ not-false _ (c .before .before .if1 .left)) (c .before .before .before .before .before .before .args .log) (c .before .before .before .before .before .before .args .lsn .0) (c .before .if2 .left)) (c .if3 .taken)
 
--- src/lib.rt:99:26
 find-commit-requires : tie.Need-find-commit-requires
-find-commit-requires c κs = ?
+find-commit-requires c κs = sym (c .before .before .before .commits-formed .ensures) ∙ not-false _ (c .before .before .if1 .left)
 
--- src/lib.rt:99:5
 write-found-requires : tie.Need-write-found-requires
-write-found-requires c κs = ?
+write-found-requires c κs = (sym (c .before .before .before .before .before .commits-formed .ensures) ∙ not-false _ (c .before .before .before .before .if1 .left), c .before .find-commit .ensures .inside, c .before .before .if3 .left)
 
--- src/lib.rt:86:1
 same-length : tie.Need-same-length
 same-length c = search needs
 
--- src/lib.rt:86:1
 returns-4 : tie.Need-returns-4
-returns-4 c = ?
+returns-4 c =
+    answered commitBytes (c .before .before .before .before .before .before .before .before .before .before .before .args .out .now) 722 _ _ _ _ _ (commit-read-done (c .before .before .before .before .before .before .before .before .before .before .before .args .commits .now) (sym (c .before .before .before .before .before .before .before .before .commits-formed .ensures) ∙ not-false _ (c .before .before .before .before .before .before .before .if1 .left)) (c .before .before .before .before .before .before .before .before .before .before .before .args .log) (c .before .before .before .before .before .before .before .before .before .before .before .args .lsn .0) (c .before .before .before .before .before .before .if2 .left)) (c .before .before .before .before .before .if3 .left) (c .before .before .before .before .find-commit .ensures .says) (c .before .before .write-found .ensures)
 
 pub commit-read-spec : {M : Type 1} → statement M
 commit-read-spec =

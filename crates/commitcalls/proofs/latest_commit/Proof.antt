@@ -1,39 +1,33 @@
+-- `commitcalls::latest_commit` meets its contract: 20, 3, then the record that `latest` finds.
+use mathlib.Core.Path.{sym, _∙_}
+use borrow.Author.Tests.{not-true, not-false}
+use Rattle.layout.specs.Records.{commitBytes}
+use Rattle.commitcalls.proofs.CallLaws.{not-formed, latest-commit-done, refused-before, refused-3, answered}
 use borrow.Author.Needs.{needs}
 use Rattle.commitcalls.proofs.latest_commit.Statement.{statement}
 use Rattle.commitcalls.proofs.latest_commit.Tie as tie
-use Rattle.commitcalls.proofs.latest_commit.Reads as reads
-use Rattle.commitcalls.proofs.latest_commit.Lts as lts
-use Rattle.commitcalls.proofs.commits_formed.Reads as commits-formed-reads
-use Rattle.commitcalls.proofs.write_found.Reads as write-found-reads
-use Rattle.commits.proofs.latest.Reads as latest-reads
 
--- src/lib.rt:106:9
 commits-formed-requires : tie.Need-commits-formed-requires
 commits-formed-requires c κs = search needs
 
--- src/lib.rt:107:9
 returns : tie.Need-returns
-returns c = ?
+returns c = refused-before commitBytes (c .before .before .before .before .args .out .now) 722 _ 20 (sym (not-formed _ _ (sym (c .before .commits-formed .ensures) ∙ not-true _ (c .if1 .taken))))
 
--- src/lib.rt:110:9
 returns-2 : tie.Need-returns-2
-returns-2 c = ?
+returns-2 c = refused-3 commitBytes (c .before .before .before .before .before .args .out .now) 722 _ _ (latest-commit-done (c .before .before .before .before .before .args .commits .now) (sym (c .before .before .commits-formed .ensures) ∙ not-false _ (c .before .if1 .left)) (c .before .before .before .before .before .args .log)) (c .if2 .taken)
 
--- src/lib.rt:112:26
 latest-requires : tie.Need-latest-requires
-latest-requires c κs = ?
+latest-requires c κs = sym (c .before .before .commits-formed .ensures) ∙ not-false _ (c .before .if1 .left)
 
--- src/lib.rt:112:5
 write-found-requires : tie.Need-write-found-requires
-write-found-requires c κs = ?
+write-found-requires c κs = (sym (c .before .before .before .before .commits-formed .ensures) ∙ not-false _ (c .before .before .before .if1 .left), c .before .latest .ensures .inside, c .before .before .if2 .left)
 
--- src/lib.rt:103:1
 same-length : tie.Need-same-length
 same-length c = search needs
 
--- src/lib.rt:103:1
 returns-3 : tie.Need-returns-3
-returns-3 c = ?
+returns-3 c =
+    answered commitBytes (c .before .before .before .before .before .before .before .before .before .before .args .out .now) 722 _ _ _ _ _ (latest-commit-done (c .before .before .before .before .before .before .before .before .before .before .args .commits .now) (sym (c .before .before .before .before .before .before .before .commits-formed .ensures) ∙ not-false _ (c .before .before .before .before .before .before .if1 .left)) (c .before .before .before .before .before .before .before .before .before .before .args .log)) (c .before .before .before .before .before .if2 .left) (c .before .before .before .before .latest .ensures .says) (c .before .before .write-found .ensures)
 
 pub latest-commit-spec : {M : Type 1} → statement M
 latest-commit-spec =

@@ -1,43 +1,39 @@
+-- `commitcalls::latest_lsn` meets its contract: 20, then the LSN of the record that `latest` finds.
+use mathlib.Core.Path.{sym, _∙_}
+use borrow.Author.Tests.{not-true, not-false}
+use Rattle.rules.specs.Records.{Commit}
+use Rattle.commits.specs.Places.{commitAt}
+use Rattle.commits.proofs.LookLaws.{place-at, place-missing}
+use Rattle.commitcalls.proofs.CallLaws.{not-formed, latest-lsn-done, field-found, field-missing}
 use borrow.Author.Needs.{needs}
 use Rattle.commitcalls.proofs.latest_lsn.Statement.{statement}
 use Rattle.commitcalls.proofs.latest_lsn.Tie as tie
-use Rattle.commitcalls.proofs.latest_lsn.Reads as reads
-use Rattle.commitcalls.proofs.latest_lsn.Lts as lts
-use Rattle.commitcalls.proofs.commits_formed.Reads as commits-formed-reads
-use Rattle.commits.proofs.latest.Reads as latest-reads
-use Rattle.commits.proofs.lsn_at.Reads as lsn-at-reads
 
--- src/lib.rt:45:9
 commits-formed-requires : tie.Need-commits-formed-requires
 commits-formed-requires c κs = search needs
 
--- src/lib.rt:46:9
 returns : tie.Need-returns
-returns c = ?
+returns c = not-formed _ _ (sym (c .before .commits-formed .ensures) ∙ not-true _ (c .if1 .taken))
 
--- src/lib.rt:48:11
 latest-requires : tie.Need-latest-requires
-latest-requires c κs = ?
+latest-requires c κs = sym (c .before .commits-formed .ensures) ∙ not-false _ (c .if1 .left)
 
--- src/lib.rt:49:19
 enum-known-i : tie.Need-enum-known-i
 enum-known-i c = search needs
 
--- src/lib.rt:49:48
 lsn-at-requires : tie.Need-lsn-at-requires
-lsn-at-requires c κs = ?
+lsn-at-requires c κs = (sym (c .before .before .before .before .before .commits-formed .ensures) ∙ not-false _ (c .before .before .before .before .if1 .left), place-at (c .before .before .before .before .before .before .before .args .commits .now) _ _ (c .before .before .before .latest .ensures) (c .before .i .given .0 .0) (c .before .i .given .1) .1)
 
--- src/lib.rt:50:27
 enum-told : tie.Need-enum-told
 enum-told c = search needs
 
--- src/lib.rt:42:1
 returns-2 : tie.Need-returns-2
-returns-2 c = ?
+returns-2 c =
+    field-found (λ (x : Commit). x .lsn) _ (latest-lsn-done (c .before .before .before .before .before .before .before .before .args .commits .now) (sym (c .before .before .before .before .before .before .commits-formed .ensures) ∙ not-false _ (c .before .before .before .before .before .if1 .left)) (c .before .before .before .before .before .before .before .before .args .log)) (commitAt (c .before .before .before .before .before .before .before .before .args .commits .now) (c .before .before .i .given .0 .0)) (c .lsn-at .result) (place-at (c .before .before .before .before .before .before .before .before .args .commits .now) _ _ (c .before .before .before .before .latest .ensures) (c .before .before .i .given .0 .0) (c .before .before .i .given .1) .0) (c .lsn-at .ensures)
 
--- src/lib.rt:42:1
 returns-3 : tie.Need-returns-3
-returns-3 c = ?
+returns-3 c =
+    field-missing (λ (x : Commit). x .lsn) _ (latest-lsn-done (c .before .before .before .before .before .before .args .commits .now) (sym (c .before .before .before .before .commits-formed .ensures) ∙ not-false _ (c .before .before .before .if1 .left)) (c .before .before .before .before .before .before .args .log)) (place-missing (c .before .before .before .before .before .before .args .commits .now) _ _ (c .before .before .latest .ensures) (c .enum-told .given .1))
 
 pub latest-lsn-spec : {M : Type 1} → statement M
 latest-lsn-spec =

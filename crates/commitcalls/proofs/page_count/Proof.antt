@@ -1,47 +1,42 @@
+-- `commitcalls::page_count` meets its contract: 20, 1, then the page count of the record that `find_commit` finds.
+use mathlib.Core.Path.{sym, _∙_}
+use borrow.Author.Tests.{not-true, not-false}
+use Rattle.rules.specs.Records.{Commit}
+use Rattle.commits.specs.Places.{commitAt}
+use Rattle.commits.proofs.LookLaws.{place-at, place-missing}
+use Rattle.commitcalls.proofs.CallLaws.{not-formed, page-count-zero, page-count-done, field-found, field-missing}
 use borrow.Author.Needs.{needs}
 use Rattle.commitcalls.proofs.page_count.Statement.{statement}
 use Rattle.commitcalls.proofs.page_count.Tie as tie
-use Rattle.commitcalls.proofs.page_count.Reads as reads
-use Rattle.commitcalls.proofs.page_count.Lts as lts
-use Rattle.commitcalls.proofs.commits_formed.Reads as commits-formed-reads
-use Rattle.commits.proofs.count_at.Reads as count-at-reads
-use Rattle.commits.proofs.find_commit.Reads as find-commit-reads
 
--- src/lib.rt:58:9
 commits-formed-requires : tie.Need-commits-formed-requires
 commits-formed-requires c κs = search needs
 
--- src/lib.rt:59:9
 returns : tie.Need-returns
-returns c = ?
+returns c = not-formed _ _ (sym (c .before .commits-formed .ensures) ∙ not-true _ (c .if1 .taken))
 
--- src/lib.rt:63:9
 returns-2 : tie.Need-returns-2
-returns-2 c = ?
+returns-2 c = sym (page-count-zero (c .before .before .before .before .args .commits .now) (sym (c .before .before .commits-formed .ensures) ∙ not-false _ (c .before .if1 .left)) (c .before .before .before .before .args .log) (c .before .before .before .before .args .lsn .0) (c .if2 .taken))
 
--- src/lib.rt:65:11
 find-commit-requires : tie.Need-find-commit-requires
-find-commit-requires c κs = ?
+find-commit-requires c κs = sym (c .before .before .commits-formed .ensures) ∙ not-false _ (c .before .if1 .left)
 
--- src/lib.rt:66:19
 enum-known-i : tie.Need-enum-known-i
 enum-known-i c = search needs
 
--- src/lib.rt:66:59
 count-at-requires : tie.Need-count-at-requires
-count-at-requires c κs = ?
+count-at-requires c κs = (sym (c .before .before .before .before .before .before .commits-formed .ensures) ∙ not-false _ (c .before .before .before .before .before .if1 .left), place-at (c .before .before .before .before .before .before .before .before .args .commits .now) _ _ (c .before .before .before .find-commit .ensures) (c .before .i .given .0 .0) (c .before .i .given .1) .1)
 
--- src/lib.rt:67:27
 enum-told : tie.Need-enum-told
 enum-told c = search needs
 
--- src/lib.rt:55:1
 returns-3 : tie.Need-returns-3
-returns-3 c = ?
+returns-3 c =
+    field-found (λ (x : Commit). x .count) _ (page-count-done (c .before .before .before .before .before .before .before .before .before .args .commits .now) (sym (c .before .before .before .before .before .before .before .commits-formed .ensures) ∙ not-false _ (c .before .before .before .before .before .before .if1 .left)) (c .before .before .before .before .before .before .before .before .before .args .log) (c .before .before .before .before .before .before .before .before .before .args .lsn .0) (c .before .before .before .before .before .if2 .left)) (commitAt (c .before .before .before .before .before .before .before .before .before .args .commits .now) (c .before .before .i .given .0 .0)) (c .count-at .result) (place-at (c .before .before .before .before .before .before .before .before .before .args .commits .now) _ _ (c .before .before .before .before .find-commit .ensures) (c .before .before .i .given .0 .0) (c .before .before .i .given .1) .0) (c .count-at .ensures)
 
--- src/lib.rt:55:1
 returns-4 : tie.Need-returns-4
-returns-4 c = ?
+returns-4 c =
+    field-missing (λ (x : Commit). x .count) _ (page-count-done (c .before .before .before .before .before .before .before .args .commits .now) (sym (c .before .before .before .before .before .commits-formed .ensures) ∙ not-false _ (c .before .before .before .before .if1 .left)) (c .before .before .before .before .before .before .before .args .log) (c .before .before .before .before .before .before .before .args .lsn .0) (c .before .before .before .if2 .left)) (place-missing (c .before .before .before .before .before .before .before .args .commits .now) _ _ (c .before .before .find-commit .ensures) (c .enum-told .given .1))
 
 pub page-count-spec : {M : Type 1} → statement M
 page-count-spec =

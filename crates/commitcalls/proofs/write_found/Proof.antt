@@ -1,38 +1,32 @@
+-- `commitcalls::write_found` meets its contract: the row of the place is the commit's bytes.
+use mathlib.Core.Path.{subst}
+use Rattle.commits.specs.Places.{Inside}
+use Rattle.commitcalls.proofs.CallLaws.{copied, nothing}
 use borrow.Author.Needs.{needs}
 use Rattle.commitcalls.proofs.write_found.Statement.{statement}
 use Rattle.commitcalls.proofs.write_found.Tie as tie
-use Rattle.commitcalls.proofs.write_found.Reads as reads
-use Rattle.commitcalls.proofs.write_found.Lts as lts
-use Rattle.commits.proofs.row.Reads as row-reads
-use Rattle.octets.proofs.load_all.Reads as load-all-reads
 
--- src/lib.rt:77:19
 enum-known-place : tie.Need-enum-known-place
 enum-known-place c = search needs
 
--- src/lib.rt:78:33
 row-requires : tie.Need-row-requires
-row-requires c κs = ?
+row-requires c κs = (c .before .before .before .before .before .pre .0, subst (Inside (c .before .before .before .before .before .args .t .now)) (c .before .place .given .1) (c .before .before .before .before .before .pre .1))
 
--- src/lib.rt:78:13
 load-all-requires : tie.Need-load-all-requires
 load-all-requires c κs = search needs
 
--- src/lib.rt:81:27
 enum-told : tie.Need-enum-told
 enum-told c = search needs
 
--- src/lib.rt:72:1
 same-length : tie.Need-same-length
 same-length c = search needs
 
--- src/lib.rt:72:1
 returns : tie.Need-returns
-returns c = ?
+returns c =
+    copied (c .before .before .before .before .before .before .before .before .before .before .args .t .now) (c .before .before .before .before .before .before .before .before .before .before .pre .0) (c .before .before .before .before .before .before .before .before .before .before .args .place) (c .before .before .before .before .before .before .before .before .before .before .args .out .now) (c .before .before .before .before .before .before .place .given .0 .0) (c .before .before .before .before .row .result) _ (c .before .before .before .before .before .before .place .given .1) (subst (Inside (c .before .before .before .before .before .before .before .before .before .before .args .t .now)) (c .before .before .before .before .before .before .place .given .1) (c .before .before .before .before .before .before .before .before .before .before .pre .1)) (c .before .before .before .before .row .ensures .0) (c .before .before .before .before .before .before .before .before .before .before .pre .2) (c .before .before .load-all .ensures)
 
--- src/lib.rt:72:1
 returns-2 : tie.Need-returns-2
-returns-2 c = ?
+returns-2 c = nothing (c .before .before .before .before .args .t .now) (c .before .before .before .before .pre .0) (c .before .before .before .before .args .place) (c .before .before .before .before .args .out .now) (c .enum-told .given .1)
 
 pub write-found-spec : {M : Type 1} → statement M
 write-found-spec =

@@ -1,7 +1,7 @@
 -- `commits::commit_key` meets its contract: the log and the complement of the LSN stored behind a zero.
 use mathlib.Core.Path.{_≡_}
 use lib.ListN.{length}
-use Rattle.commits.proofs.FieldLaws.{key-made}
+use Rattle.commits.proofs.RowLaws.{key-made}
 use borrow.Author.Needs.{needs}
 use Rattle.commits.proofs.commit_key.Statement.{statement}
 use Rattle.commits.proofs.commit_key.Tie as tie

@@ -1,5 +1,6 @@
--- `commits::count_at` meets its contract: the four bytes at 25.
-use Rattle.commits.proofs.FieldLaws.{count-read}
+-- `commits::count_at` meets its contract: the page count of the row, where it begins.
+use Rattle.rules.specs.Records.{Commit}
+use Rattle.commits.proofs.RowLaws.{row-read}
 use borrow.Author.Needs.{needs}
 use Rattle.commits.proofs.count_at.Statement.{statement}
 use Rattle.commits.proofs.count_at.Tie as tie
@@ -7,14 +8,11 @@ use Rattle.commits.proofs.count_at.Tie as tie
 row-requires : tie.Need-row-requires
 row-requires c κs = search needs
 
-add-load32 : tie.Need-add-load32
-add-load32 c = search needs
-
-load32-requires : tie.Need-load32-requires
-load32-requires c κs = search needs
+commit-count-requires : tie.Need-commit-count-requires
+commit-count-requires c κs = search needs
 
 returns : tie.Need-returns
-returns c = count-read (c .before .before .before .args .t .now) (c .before .before .before .args .i) (c .before .row .result) (c .before .row .ensures .0) (c .load32 .result) (c .load32 .ensures)
+returns c = row-read (c .before .before .before .args .t .now) (c .before .before .before .args .i) (c .before .row .result) (c .before .row .ensures .0) (λ (x : Commit). x .count) _ (c .commit-count .ensures)
 
 pub count-at-spec : {M : Type 1} → statement M
-count-at-spec = tie.close (tie.spec row-requires add-load32 load32-requires returns)
+count-at-spec = tie.close (tie.spec row-requires commit-count-requires returns)

@@ -1,8 +1,6 @@
 -- `commits::row` meets its contract: record i of a formed table ends within its bytes.
 use mathlib.Core.Path.{refl}
-use Prim.Native.Nat.{_+_, _*_, _≤_}
 use native.Mathlib.Omega.{arith}
-use lib.ListN.{length}
 use Rattle.rows.proofs.Checks.{row-in}
 use Rattle.rows.proofs.Tables.{commits}
 use Rattle.commits.proofs.row.Statement.{statement}
