@@ -42,9 +42,10 @@ module _ {R K : Type 0} {c : Codec R} {s k : ℕ} {form : R → Bool} {key : R �
       let l : i < countOf t = E.at-in s k t kb i (At i) (sym p) refl in
       let again : formedIn c k form u ≡ true = remove-holds L t e (λ r. isEq (order x (key r))) .again in
       let went : laid (removed i (recs s t)) t ≡ u = remove-laid L t e kb x n i p in
-      let rows : recs s u ≡ removed i (recs s t) = ap (recs s) (sym went) ∙ E.after-remove s k t i (L .sized) w l .rows in
-      (again,
-      sym (put-fits L u again r f)
-      ∙ ap (λ (rs : List (List ℕ)). B.fits s (T.put k (c .spell r) rs) u) rows
-      ∙ ap (B.fits s (T.put k (c .spell r) (removed i (recs s t)))) (sym went)
-      ∙ E.room-again s k t i (c .spell r) (L .sized) w l)
+      let rows : recs s u ≡ removed i (recs s t) = ap (recs s) (sym went) ∙ E.after-remove s k t i (L .sized) w l .rows in (
+        again,
+        sym (put-fits L u again r f)
+            ∙ ap (λ (rs : List (List ℕ)). B.fits s (T.put k (c .spell r) rs) u) rows
+            ∙ ap (B.fits s (T.put k (c .spell r) (removed i (recs s t)))) (sym went)
+            ∙ E.room-again s k t i (c .spell r) (L .sized) w l,
+      )
