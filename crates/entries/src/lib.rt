@@ -8,9 +8,9 @@ use layout::CHECKPOINT;
 use layout::ENTRY;
 use layout::PRESENT;
 ghost use mathlib.Core.Path.{_≡_};
-ghost use mathlib.Core.Bool.{_&&_};
+ghost use mathlib.Core.Bool.{not, _&&_};
 ghost use Prim.Native.Nat.{_+_, _*_, _≤_, _<_};
-ghost use lib.Dec.{leb};
+ghost use lib.Dec.{eqb, leb};
 ghost use lib.ListN.{length};
 ghost use Rattle.octets.specs.Bytes.{part};
 ghost use Rattle.octets.specs.Order.{isLess};
@@ -30,51 +30,59 @@ struct Row {
     lsn: u64,
 }
 
-// Whether the bytes at a place are a checkpoint's: the reserved byte is 0, the LSN is not.
+// Whether a reserved byte and a complemented LSN are those of a record in form: the byte is 0, the LSN is not.
+fn checkpoint_numbers(reserved: u8, lsn: u64) -> bool
+    ensures { λ r. ⌜ r ≡ (eqb reserved 0 && not (eqb lsn 18446744073709551615)) ⌝ }
+{
+    if reserved != 0 {
+        return false;
+    }
+    lsn != 18446744073709551615
+}
+
+// The same of a page and a complemented LSN.
+fn entry_numbers(reserved: u8, page: u64, lsn: u64) -> bool
+    ensures { λ r. ⌜ r ≡ (eqb reserved 0 && (not (eqb page 0) && not (eqb lsn 18446744073709551615))) ⌝ }
+{
+    if reserved != 0 {
+        return false;
+    }
+    if page == 0 {
+        return false;
+    }
+    lsn != 18446744073709551615
+}
+
+// The same of a complemented page.
+fn present_numbers(reserved: u8, page: u64) -> bool
+    ensures { λ r. ⌜ r ≡ (eqb reserved 0 && not (eqb page 4294967295)) ⌝ }
+{
+    if reserved != 0 {
+        return false;
+    }
+    page != 4294967295
+}
+
+// Whether the bytes at a place are a checkpoint in form.
 pub fn checkpoint_form(s: &[u8], at: usize) -> bool
     requires { ⌜ at + 25 ≤ length (now s) ⌝ }
     ensures { λ r. ⌜ r ≡ inForm checkpointBytes checkpointForm (part at 25 (now (s .entry))) ⌝ }
 {
-    if octets::load8(s, at) != 0 {
-        return false;
-    }
-    octets::load64(s, at + 17) != 18446744073709551615
+    let reserved = octets::load8(s, at);
+    let lsn = octets::load64(s, at + 17);
+    checkpoint_numbers(reserved, lsn)
 }
 
-// Whether the bytes at a place are an index entry's: the reserved byte is 0, neither the page nor the LSN is.
-pub fn entry_form(s: &[u8], at: usize) -> bool
-    requires { ⌜ at + 29 ≤ length (now s) ⌝ }
-    ensures { λ r. ⌜ r ≡ inForm entryBytes entryForm (part at 29 (now (s .entry))) ⌝ }
-{
-    if octets::load8(s, at) != 0 {
-        return false;
-    }
-    if octets::load32(s, at + 17) == 0 {
-        return false;
-    }
-    octets::load64(s, at + 21) != 18446744073709551615
-}
-
-// Whether the bytes at a place are a present page's: the reserved byte is 0, the page is not.
-pub fn present_form(s: &[u8], at: usize) -> bool
-    requires { ⌜ at + 21 ≤ length (now s) ⌝ }
-    ensures { λ r. ⌜ r ≡ inForm presentBytes presentForm (part at 21 (now (s .entry))) ⌝ }
-{
-    if octets::load8(s, at) != 0 {
-        return false;
-    }
-    octets::load32(s, at + 17) != 4294967295
-}
-
-// The checkpoint at a place as numbers.
+// The checkpoint at a place as numbers: all are loaded before any is tested.
 fn checkpoint_row(s: &[u8], at: usize) -> Row
     requires { ⌜ at + 25 ≤ length (now s) ⌝ }
     ensures { λ r. ⌜ r ≡ rowOf Checkpoints (part at 25 (now (s .entry))) ⌝ }
 {
+    let reserved = octets::load8(s, at);
     let high = octets::load64(s, at + 1);
     let low = octets::load64(s, at + 9);
     let lsn = octets::load64(s, at + 17);
-    let formed = checkpoint_form(s, at);
+    let formed = checkpoint_numbers(reserved, lsn);
     Row {
         formed: formed,
         high: high,
@@ -84,16 +92,28 @@ fn checkpoint_row(s: &[u8], at: usize) -> Row
     }
 }
 
-// The index entry at a place as numbers.
+// Whether the bytes at a place are an index entry in form.
+pub fn entry_form(s: &[u8], at: usize) -> bool
+    requires { ⌜ at + 29 ≤ length (now s) ⌝ }
+    ensures { λ r. ⌜ r ≡ inForm entryBytes entryForm (part at 29 (now (s .entry))) ⌝ }
+{
+    let reserved = octets::load8(s, at);
+    let page = octets::load32(s, at + 17) as u64;
+    let lsn = octets::load64(s, at + 21);
+    entry_numbers(reserved, page, lsn)
+}
+
+// The index entry at a place as numbers: all are loaded before any is tested.
 fn entry_row(s: &[u8], at: usize) -> Row
     requires { ⌜ at + 29 ≤ length (now s) ⌝ }
     ensures { λ r. ⌜ r ≡ rowOf Index (part at 29 (now (s .entry))) ⌝ }
 {
+    let reserved = octets::load8(s, at);
     let high = octets::load64(s, at + 1);
     let low = octets::load64(s, at + 9);
     let page = octets::load32(s, at + 17) as u64;
     let lsn = octets::load64(s, at + 21);
-    let formed = entry_form(s, at);
+    let formed = entry_numbers(reserved, page, lsn);
     Row {
         formed: formed,
         high: high,
@@ -103,15 +123,26 @@ fn entry_row(s: &[u8], at: usize) -> Row
     }
 }
 
-// The present page at a place as numbers.
+// Whether the bytes at a place are a present page in form.
+pub fn present_form(s: &[u8], at: usize) -> bool
+    requires { ⌜ at + 21 ≤ length (now s) ⌝ }
+    ensures { λ r. ⌜ r ≡ inForm presentBytes presentForm (part at 21 (now (s .entry))) ⌝ }
+{
+    let reserved = octets::load8(s, at);
+    let page = octets::load32(s, at + 17) as u64;
+    present_numbers(reserved, page)
+}
+
+// The present page at a place as numbers: all are loaded before any is tested.
 fn present_row(s: &[u8], at: usize) -> Row
     requires { ⌜ at + 21 ≤ length (now s) ⌝ }
     ensures { λ r. ⌜ r ≡ rowOf Presence (part at 21 (now (s .entry))) ⌝ }
 {
+    let reserved = octets::load8(s, at);
     let high = octets::load64(s, at + 1);
     let low = octets::load64(s, at + 9);
     let page = octets::load32(s, at + 17) as u64;
-    let formed = present_form(s, at);
+    let formed = present_numbers(reserved, page);
     Row {
         formed: formed,
         high: high,
