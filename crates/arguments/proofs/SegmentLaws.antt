@@ -1,5 +1,5 @@
 -- Segments and ranges across the boundary: an answer by value and what is left of it. A range whose set is in normal form fills a lent slice of its size. Assumes nothing.
-use Prim.Native.Nat.{ℕ, _+_, _<_, _≤_}
+use Prim.Native.Nat.{ℕ, _+_}
 use mathlib.Core.Path.{_≡_, refl, sym, ap, ap₂, _∙_}
 use mathlib.Core.List.{List, _++_}
 use mathlib.Core.Option.{Option, none, some}
@@ -20,9 +20,8 @@ use Rattle.commit.specs.declared.Presence.the-variants.{Missing, Given}
 use Rattle.commit.specs.declared.SegmentIdx.{SegmentIdx}
 use Rattle.commit.specs.declared.SegmentRange.{SegmentRange}
 use Rattle.commit.specs.declared.RangeAnswer.{RangeAnswer}
-use Rattle.commit.specs.Says.{givenSays, rangeSays, segmentSays, noRange, Tells}
+use Rattle.commit.specs.Says.{givenSays, rangeSays, segmentSays, Tells}
 use Rattle.frames.specs.Rules.{frameRule, spelled}
-use Rattle.layout.specs.Codecs.{Codec}
 use Rattle.layout.specs.Values.{setBytes, windowBytes, framesBytes, frameBytes, segmentBytes, partBytes}
 use Rattle.arguments.specs.declared.Reply.{Reply}
 use Rattle.arguments.specs.Replies.{none-under, valueOr, given}

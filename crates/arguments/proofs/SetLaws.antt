@@ -1,8 +1,8 @@
 -- Sets across the boundary: an answer by value and what is left of it, and that a rule leaves one thing only.
 -- An answer under 1, 2 or 3 is put first, then the lent slice is looked at, then 22 or the set is put: the order of the rule. Assumes nothing.
-use Prim.Native.Nat.{ℕ, _<_, _≤_}
+use Prim.Native.Nat.{ℕ, _<_}
 use mathlib.Core.Path.{_≡_, refl, sym, ap, ap₂, _∙_, subst}
-use mathlib.Core.Logic.{_⊎_, inl, inr}
+use mathlib.Core.Logic.{inl, inr}
 use mathlib.Core.List.{List}
 use mathlib.Core.Bool.{Bool, true, false, cond, not, _&&_}
 use native.Mathlib.Omega.{arith}
@@ -19,7 +19,7 @@ use Rattle.pageset.specs.Sets.{normal, blank, normalForm, rising, windowForms, 
 use Rattle.pageset.specs.Says.{IsSet, Gives, GivesOr22, refusedSet, emptySet, common, left}
 use Rattle.pageset.proofs.ResultLaws.{one-set}
 use Rattle.pageset.proofs.FormLaws.{and-snd}
-use Rattle.layout.specs.Codecs.{Codec, inForm}
+use Rattle.layout.specs.Codecs.{inForm}
 use Rattle.layout.proofs.HoldLaws.{in-form}
 use Rattle.layout.proofs.FormHolds.{set-held}
 use Rattle.layout.specs.Values.{setBytes, windowBytes}

@@ -1,19 +1,17 @@
 -- A segment in bytes as an argument, and a range of one as an answer.
 use Prim.Native.Nat.{ℕ}
 use mathlib.Core.List.{List}
-use mathlib.Core.Option.{Option, none, some}
+use mathlib.Core.Option.{Option}
 use mathlib.Core.Bool.{cond}
 use lib.Dec.{eqb}
-use lib.ListN.{length, replicate}
+use lib.ListN.{replicate}
 use Rattle.core.specs.Answers.{Answer, done}
 use Rattle.rules.specs.Forms.{segmentForm}
 use Rattle.rules.specs.Frames.{Part}
-use Rattle.commit.specs.declared.Presence.{Presence}
 use Rattle.commit.specs.declared.SegmentIdx.{SegmentIdx}
 use Rattle.commit.specs.declared.RangeAnswer.{RangeAnswer}
 use Rattle.commit.specs.Builders.{zeroFrames}
 use Rattle.commit.specs.Says.{givenSays, rangeSays}
-use Rattle.layout.specs.Codecs.{Codec}
 use Rattle.layout.specs.Values.{segmentBytes, partBytes}
 use Rattle.segmentbytes.specs.Laid.{segmentLaid}
 use Rattle.arguments.specs.declared.Reply.{Reply}
