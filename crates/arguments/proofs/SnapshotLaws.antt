@@ -20,7 +20,9 @@ use Rattle.rules.specs.Arguments.{rangeLsns, rangeOrder, snapshotLsns, snapshot
 use Rattle.pageset.proofs.FormLaws.{and-both}
 use Rattle.volume.specs.declared.snapshot.SnapshotAnswer.{SnapshotAnswer}
 use Rattle.volume.specs.Snapshots as Snap
-use Rattle.volume.proofs.SnapshotLaws.{laid-says}
+use Rattle.volume.specs.declared.snapshot.Snapshot as declared
+use Rattle.volume.specs.declared.snapshot.LogRange.{LogRange}
+use Rattle.volume.proofs.SnapshotLaws.{laid-says, in-form}
 use Rattle.table.specs.Table.{runs}
 use Rattle.table.proofs.Rows.{length-runs}
 use Rattle.layout.specs.Codecs.{Codec, spelled}
@@ -235,3 +237,17 @@ module _ (b : List ℕ) where
   pub head-done : lsns ≡ true → ordered ≡ true → snapshotFormed b ≡ true → done (Snap.headOf (snapshotIn b)) ≡ headIn b
   unfolding headIn
   head-done e f g = rw (e, f, g)
+
+-- ---- the value that an argument became
+
+module _ (b : List ℕ) (s : declared.Snapshot) (e : s ≡ Snap.laid (snapshotIn b)) where
+  -- it says what the bytes spell
+  pub arg-says : Snap.snapshotSays s ≡ snapshotIn b
+  arg-says = ap Snap.snapshotSays e ∙ laid-says (snapshotIn b)
+
+  arg-formed : Snap.inForm s ≡ true
+  arg-formed = ap Snap.inForm e ∙ laid-formed (snapshotIn b) (in-few b)
+
+  -- and the call by value answers the rule on that
+  pub answer-append : (r : LogRange) (range : Range) (a : SnapshotAnswer) → Snap.rangeSays r ≡ range → a ≡ Snap.laidAnswer (Snap.appended s r) → a ≡ Snap.laidAnswer (snapshotAppend (snapshotIn b) range)
+  answer-append r range a f h = h ∙ ap Snap.laidAnswer (in-form s r arg-formed ∙ ap₂ snapshotAppend arg-says f)

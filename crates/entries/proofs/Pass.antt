@@ -4,23 +4,21 @@ use mathlib.Core.Path.{_≡_, refl, sym, ap, ap₂, _∙_}
 use mathlib.Core.List.{List, [], _∷_}
 use mathlib.Core.Bool.{Bool, true, false, not, _&&_}
 use native.Mathlib.Omega.{arith}
+use lib.Dec.{leb}
 use lib.ListN.{length}
-use borrow.Author.Tests.{not-true, not-false}
+use borrow.Author.Tests.{leb-true, le-leb, lt-leb, not-true, not-false}
 use Rattle.octets.specs.Bytes.{part, AreBytes}
 use Rattle.octets.specs.Order.{isLess}
 use Rattle.octets.proofs.Places as P
 use Rattle.table.specs.Records.{cmp, rises}
 use Rattle.table.specs.Table.{runs, recs, countOf, capOf, wellOrdered}
-use Rattle.table.proofs.Rows.{recs-are}
-use Rattle.table.proofs.Checks.{well-short, well-over, well-made}
+use Rattle.table.proofs.Rows.{recs-are, cap-room}
 use Rattle.rules.specs.Lists.{all}
-use Rattle.layout.specs.Codecs.{inForm}
+use Rattle.rules.proofs.TableLaws.{and-fst, and-snd}
 use Rattle.layout.specs.Records.{logLsnBytes, logPageLsnBytes, sidPageBytes, checkpointBytes, entryBytes, presentBytes}
 use Rattle.layout.specs.Tables.{formedIn}
-use Rattle.entries.specs.declared.Keyed.{Keyed}
-use Rattle.entries.specs.declared.Keyed.the-variants as Keyed
 use Rattle.entries.specs.declared.Row.{Row}
-use Rattle.entries.specs.Keys.{sizeOf, rowForm, tableOk, rowsOk, rowOf, rowOrder}
+use Rattle.entries.specs.Keys.{Keyed, Checkpoints, Index, Presence, sizeOf, rowForm, tableOk, rowsOk, rowOf, rowOrder}
 use Rattle.entries.proofs.RowOrders.{row-order}
 
 -- ---- records and a test of each
@@ -66,9 +64,9 @@ module _ (s : ℕ) (f : List ℕ → Bool) (t : List ℕ) where
 
 -- a record has its reserved byte and its identifier at least
 pub size-some : (k : Keyed) → 17 ≤ sizeOf k
-size-some Keyed.Checkpoints = omega arith
-size-some Keyed.Index = omega arith
-size-some Keyed.Presence = omega arith
+size-some Checkpoints = omega arith
+size-some Index = omega arith
+size-some Presence = omega arith
 
 module _ (k : Keyed) (t : List ℕ) (by : AreBytes t) where
   abbrev s : ℕ
@@ -136,20 +134,49 @@ module _ (k : Keyed) (t : List ℕ) (by : AreBytes t) where
 -- the three tables are asked for one thing
 table-is : (k : Keyed) (t : List ℕ) → tableOk k t ≡ (wellOrdered (sizeOf k) (sizeOf k) t && all (rowForm k) (recs (sizeOf k) t))
 unfolding formedIn checkpointBytes entryBytes presentBytes logLsnBytes logPageLsnBytes sidPageBytes
-table-is Keyed.Checkpoints t = refl
-table-is Keyed.Index t = refl
-table-is Keyed.Presence t = refl
+table-is Checkpoints t = refl
+table-is Index t = refl
+table-is Presence t = refl
 
-module _ (k : Keyed) (t : List ℕ) where
-  pub table-short : length t < 2 → false ≡ tableOk k t
-  table-short h = sym (table-is k t ∙ ap (λ b. b && all (rowForm k) (recs (sizeOf k) t)) (well-short (sizeOf k) (sizeOf k) t h))
+-- the count is asked first, and then the rows
+module _ (k : Keyed) (t : List ℕ) (b : Bool) (eb : b ≡ (leb 2 (length t) && leb (countOf t) (capOf (sizeOf k) t))) where
+  counted : (p q r u : Bool) → ((p && (q && r)) && u) ≡ ((p && q) && (r && u))
+  counted true true r u = refl
+  counted true false r u = refl
+  counted false q r u = refl
 
-  pub table-over : 2 ≤ length t → capOf (sizeOf k) t < countOf t → false ≡ tableOk k t
-  table-over h g = sym (table-is k t ∙ ap (λ b. b && all (rowForm k) (recs (sizeOf k) t)) (well-over (sizeOf k) (sizeOf k) t h g))
+  table-parts : tableOk k t ≡ (b && (rises (sizeOf k) (recs (sizeOf k) t) && all (rowForm k) (recs (sizeOf k) t)))
+  unfolding wellOrdered
+  table-parts =
+      table-is k t
+      ∙ counted (leb 2 (length t)) (leb (countOf t) (capOf (sizeOf k) t)) (rises (sizeOf k) (recs (sizeOf k) t)) (all (rowForm k) (recs (sizeOf k) t))
+      ∙ ap (λ c. c && (rises (sizeOf k) (recs (sizeOf k) t) && all (rowForm k) (recs (sizeOf k) t))) (sym eb)
 
-  pub table-rows : (n : ℕ) → n ≡ countOf t → 2 ≤ length t → n ≤ capOf (sizeOf k) t → rowsOk k n t ≡ tableOk k t
-  unfolding rowsOk
-  table-rows n e h g =
-      ap (λ l. rises (sizeOf k) l && all (rowForm k) l) (recs-are (sizeOf k) n t e)
-      ∙ ap (λ b. b && all (rowForm k) (recs (sizeOf k) t)) (sym (well-made (sizeOf k) (sizeOf k) t h (omega arith)))
-      ∙ sym (table-is k t)
+  pub count-not : not b ≡ true → false ≡ tableOk k t
+  count-not h = sym (table-parts ∙ ap (λ c. c && (rises (sizeOf k) (recs (sizeOf k) t) && all (rowForm k) (recs (sizeOf k) t))) (not-true b h))
+
+  module _ (h : not b ≡ false) where
+    test : (leb 2 (length t) && leb (countOf t) (capOf (sizeOf k) t)) ≡ true
+    test = sym eb ∙ not-false b h
+
+    pub count-two : 2 ≤ length t
+    count-two = leb-true 2 (length t) (and-fst (leb 2 (length t)) (leb (countOf t) (capOf (sizeOf k) t)) test)
+
+    pub count-room : (n : ℕ) → n ≡ countOf t → 2 + n * sizeOf k ≤ length t
+    count-room n e =
+        let l : countOf t ≤ capOf (sizeOf k) t = leb-true (countOf t) (capOf (sizeOf k) t) (and-snd (leb 2 (length t)) (leb (countOf t) (capOf (sizeOf k) t)) test) in
+        cap-room (sizeOf k) n t (omega (arith, size-some k)) count-two (omega arith)
+
+    pub table-rows : (n : ℕ) → n ≡ countOf t → rowsOk k n t ≡ tableOk k t
+    unfolding rowsOk
+    table-rows n e =
+        ap (λ l. rises (sizeOf k) l && all (rowForm k) l) (recs-are (sizeOf k) n t e)
+        ∙ sym (table-parts ∙ ap (λ c. c && (rises (sizeOf k) (recs (sizeOf k) t) && all (rowForm k) (recs (sizeOf k) t))) (not-false b h))
+
+-- the test of the count, as the code makes it
+module _ (s : ℕ) (t : List ℕ) where
+  pub count-short : length t < 2 → false ≡ (leb 2 (length t) && leb (countOf t) (capOf s t))
+  count-short h = sym (ap (λ b. b && leb (countOf t) (capOf s t)) (lt-leb 2 (length t) h))
+
+  pub count-rest : 2 ≤ length t → leb (countOf t) (capOf s t) ≡ (leb 2 (length t) && leb (countOf t) (capOf s t))
+  count-rest h = sym (ap (λ b. b && leb (countOf t) (capOf s t)) (le-leb 2 (length t) h))

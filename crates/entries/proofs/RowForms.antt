@@ -63,6 +63,11 @@ page-up : (w : ℕ) → w < 256 ^ 4 → pageForm w ≡ not (eqb w 0)
 unfolding pageForm lastPage
 page-up w h = number-counts 4294967295 w (omega arith)
 
+-- a page of a segment, as the code holds it, is in form where the page is not 0
+pub present-formed : (sid : List ℕ) (page : ℕ) → AreBytes sid → length sid ≡ 16 → page < 256 ^ 4 → 0 < page → presentForm (record { sid = sid; page = page }) ≡ true
+unfolding presentForm
+present-formed sid page b l h z = ap₂ _&&_ (id-any sid b l) (page-up page h ∙ ap not (ne-eqb page 0 (λ e. omega arith)))
+
 -- ---- the record at a place
 
 module _ (s : List ℕ) (at : ℕ) (by : AreBytes s) where

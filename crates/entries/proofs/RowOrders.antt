@@ -18,17 +18,15 @@ use Rattle.table.specs.Records.{cmp}
 use Rattle.rules.specs.Forms.{checkpointForm, entryForm, presentForm}
 use Rattle.layout.specs.Codecs.{inForm}
 use Rattle.layout.specs.Records.{checkpointBytes, entryBytes, presentBytes}
-use Rattle.entries.specs.declared.Keyed.{Keyed}
-use Rattle.entries.specs.declared.Keyed.the-variants as Keyed
 use Rattle.entries.specs.declared.Row.{Row}
-use Rattle.entries.specs.Keys.{sizeOf, rowForm, rowOf, rowOrder}
+use Rattle.entries.specs.Keys.{Keyed, Checkpoints, Index, Presence, sizeOf, rowForm, rowOf, rowOrder}
 use Rattle.entries.proofs.RowForms.{checkpoint-asked, entry-asked, present-asked, byte-is}
 
 -- a record in form has the reserved byte 0
 reserved-zero : (k : Keyed) (z : List ℕ) → AreBytes z → length z ≡ sizeOf k → rowForm k z ≡ true → be (part 0 1 z) ≡ 0
-reserved-zero Keyed.Checkpoints z b l f = byte-is _ _ (be (part 0 1 z)) (ap (inForm checkpointBytes checkpointForm) (sym (part-whole z 25 l)) ∙ checkpoint-asked z 0 b (omega arith)) f
-reserved-zero Keyed.Index z b l f = byte-is _ _ (be (part 0 1 z)) (ap (inForm entryBytes entryForm) (sym (part-whole z 29 l)) ∙ entry-asked z 0 b (omega arith)) f
-reserved-zero Keyed.Presence z b l f = byte-is _ _ (be (part 0 1 z)) (ap (inForm presentBytes presentForm) (sym (part-whole z 21 l)) ∙ present-asked z 0 b (omega arith)) f
+reserved-zero Checkpoints z b l f = byte-is _ _ (be (part 0 1 z)) (ap (inForm checkpointBytes checkpointForm) (sym (part-whole z 25 l)) ∙ checkpoint-asked z 0 b (omega arith)) f
+reserved-zero Index z b l f = byte-is _ _ (be (part 0 1 z)) (ap (inForm entryBytes entryForm) (sym (part-whole z 29 l)) ∙ entry-asked z 0 b (omega arith)) f
+reserved-zero Presence z b l f = byte-is _ _ (be (part 0 1 z)) (ap (inForm presentBytes presentForm) (sym (part-whole z 21 l)) ∙ present-asked z 0 b (omega arith)) f
 
 module _ (x y : List ℕ) (bx : AreBytes x) (by : AreBytes y) where
   -- a number at a place of both, and what follows it
@@ -60,14 +58,14 @@ module _ (x y : List ℕ) (bx : AreBytes x) (by : AreBytes y) where
   -- two records in form, of each table
   pub row-order : (k : Keyed) → length x ≡ sizeOf k → length y ≡ sizeOf k → rowForm k x ≡ true → rowForm k y ≡ true → cmp (sizeOf k) x y ≡ rowOrder (rowOf k x) (rowOf k y)
   unfolding thenBy
-  row-order Keyed.Checkpoints lx ly fx fy =
-      front 8 (omega arith) (omega arith) (reserved-zero Keyed.Checkpoints x bx lx fx) (reserved-zero Keyed.Checkpoints y by ly fy)
+  row-order Checkpoints lx ly fx fy =
+      front 8 (omega arith) (omega arith) (reserved-zero Checkpoints x bx lx fx) (reserved-zero Checkpoints y by ly fy)
       ∙ behind (last-number 17 8 (omega arith) (omega arith) ∙ ap (λ o. thenBy o (order (be (part 17 8 x)) (be (part 17 8 y)))) (sym (O.order-equal 0 0 refl)))
-  row-order Keyed.Index lx ly fx fy =
-      front 12 (omega arith) (omega arith) (reserved-zero Keyed.Index x bx lx fx) (reserved-zero Keyed.Index y by ly fy)
+  row-order Index lx ly fx fy =
+      front 12 (omega arith) (omega arith) (reserved-zero Index x bx lx fx) (reserved-zero Index y by ly fy)
       ∙ behind (number-then 17 4 8 (omega arith) (omega arith) ∙ ap (thenBy (order (be (part 17 4 x)) (be (part 17 4 y)))) (last-number 21 8 (omega arith) (omega arith)))
-  row-order Keyed.Presence lx ly fx fy =
-      front 4 (omega arith) (omega arith) (reserved-zero Keyed.Presence x bx lx fx) (reserved-zero Keyed.Presence y by ly fy)
+  row-order Presence lx ly fx fy =
+      front 4 (omega arith) (omega arith) (reserved-zero Presence x bx lx fx) (reserved-zero Presence y by ly fy)
       ∙ behind (last-number 17 4 (omega arith) (omega arith) ∙ sym (O.then-equal (order (be (part 17 4 x)) (be (part 17 4 y)))) ∙ ap (thenBy (order (be (part 17 4 x)) (be (part 17 4 y)))) (sym (O.order-equal 0 0 refl)))
 
 -- ---- number by number, as the code compares

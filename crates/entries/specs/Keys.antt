@@ -12,27 +12,31 @@ use Rattle.rules.specs.Forms.{checkpointForm, entryForm, presentForm}
 use Rattle.layout.specs.Codecs.{inForm}
 use Rattle.layout.specs.Records.{checkpointBytes, entryBytes, presentBytes}
 use Rattle.layout.specs.Tables.{checkpointsOk, indexOk, presenceOk}
-use Rattle.entries.specs.declared.Keyed.{Keyed}
-use Rattle.entries.specs.declared.Keyed.the-variants as Keyed
 use Rattle.entries.specs.declared.Row.{Row}
+
+-- the tables
+pub data Keyed : Type 0 where
+  Checkpoints : Keyed
+  Index : Keyed
+  Presence : Keyed
 
 -- a record's size
 abbrev pub sizeOf : Keyed → ℕ
-sizeOf Keyed.Checkpoints = 25
-sizeOf Keyed.Index = 29
-sizeOf Keyed.Presence = 21
+sizeOf Checkpoints = 25
+sizeOf Index = 29
+sizeOf Presence = 21
 
 -- a record's form
 abbrev pub rowForm : Keyed → List ℕ → Bool
-rowForm Keyed.Checkpoints b = inForm checkpointBytes checkpointForm b
-rowForm Keyed.Index b = inForm entryBytes entryForm b
-rowForm Keyed.Presence b = inForm presentBytes presentForm b
+rowForm Checkpoints b = inForm checkpointBytes checkpointForm b
+rowForm Index b = inForm entryBytes entryForm b
+rowForm Presence b = inForm presentBytes presentForm b
 
 -- 20 of each
 abbrev pub tableOk : Keyed → List ℕ → Bool
-tableOk Keyed.Checkpoints t = checkpointsOk t
-tableOk Keyed.Index t = indexOk t
-tableOk Keyed.Presence t = presenceOk t
+tableOk Checkpoints t = checkpointsOk t
+tableOk Index t = indexOk t
+tableOk Presence t = presenceOk t
 
 -- of n records: their keys strictly rise, and each is in form
 unfoldable pub rowsOk : Keyed → ℕ → List ℕ → Bool
@@ -40,14 +44,14 @@ rowsOk k n t = rises (sizeOf k) (runs n (sizeOf k) 2 t) && all (rowForm k) (runs
 
 -- the page and the LSN of a record as they stand in its bytes, 0 where it has none
 abbrev pub pageIn : Keyed → List ℕ → ℕ
-pageIn Keyed.Checkpoints b = 0
-pageIn Keyed.Index b = be (part 17 4 b)
-pageIn Keyed.Presence b = be (part 17 4 b)
+pageIn Checkpoints b = 0
+pageIn Index b = be (part 17 4 b)
+pageIn Presence b = be (part 17 4 b)
 
 abbrev pub lsnIn : Keyed → List ℕ → ℕ
-lsnIn Keyed.Checkpoints b = be (part 17 8 b)
-lsnIn Keyed.Index b = be (part 21 8 b)
-lsnIn Keyed.Presence b = 0
+lsnIn Checkpoints b = be (part 17 8 b)
+lsnIn Index b = be (part 21 8 b)
+lsnIn Presence b = 0
 
 -- a record as numbers: whether it is in form, the two halves of its identifier, its page, its LSN
 abbrev pub rowOf : Keyed → List ℕ → Row

@@ -4,24 +4,22 @@ use core::id::LogId;
 use core::id::SegmentId;
 use core::lsn::Lsn;
 use core::pageidx::PageIdx;
+use layout::CHECKPOINT;
+use layout::ENTRY;
+use layout::PRESENT;
 ghost use mathlib.Core.Path.{_≡_};
-ghost use mathlib.Core.Bool.{true};
+ghost use mathlib.Core.Bool.{not, _&&_};
 ghost use Prim.Native.Nat.{_+_, _*_, _≤_, _<_};
+ghost use lib.Dec.{eqb, leb};
 ghost use lib.ListN.{length};
-ghost use Rattle.octets.specs.Bytes.{be, part};
+ghost use Rattle.octets.specs.Bytes.{part};
 ghost use Rattle.octets.specs.Order.{isLess};
+ghost use Rattle.table.specs.Table.{countOf, capOf};
 ghost use Rattle.rules.specs.Forms.{checkpointForm, entryForm, presentForm};
 ghost use Rattle.layout.specs.Codecs.{inForm};
 ghost use Rattle.layout.specs.Records.{logLsnBytes, logPageLsnBytes, sidPageBytes, checkpointBytes, entryBytes, presentBytes};
 ghost use Rattle.layout.specs.Tables.{checkpointsOk, indexOk, presenceOk};
-ghost use Rattle.entries.specs.Keys.{sizeOf, rowForm, tableOk, rowsOk, pageIn, lsnIn, rowOf, rowOrder};
-
-// The tables whose record is its key.
-pub enum Keyed {
-    Checkpoints,
-    Index,
-    Presence,
-}
+ghost use Rattle.entries.specs.Keys.{Checkpoints, Index, Presence, rowsOk, rowOf, rowOrder};
 
 // A record as numbers: the halves of its identifier, its page and its LSN as its bytes have them, 0 where it has none.
 struct Row {
@@ -32,105 +30,125 @@ struct Row {
     lsn: u64,
 }
 
-// Whether the bytes at a place are a checkpoint's: the reserved byte is 0, the LSN is not.
+// Whether a reserved byte and a complemented LSN are those of a record in form: the byte is 0, the LSN is not.
+fn checkpoint_numbers(reserved: u8, lsn: u64) -> bool
+    ensures { λ r. ⌜ r ≡ (eqb reserved 0 && not (eqb lsn 18446744073709551615)) ⌝ }
+{
+    if reserved != 0 {
+        return false;
+    }
+    lsn != 18446744073709551615
+}
+
+// The same of a page and a complemented LSN.
+fn entry_numbers(reserved: u8, page: u64, lsn: u64) -> bool
+    ensures { λ r. ⌜ r ≡ (eqb reserved 0 && (not (eqb page 0) && not (eqb lsn 18446744073709551615))) ⌝ }
+{
+    if reserved != 0 {
+        return false;
+    }
+    if page == 0 {
+        return false;
+    }
+    lsn != 18446744073709551615
+}
+
+// The same of a complemented page.
+fn present_numbers(reserved: u8, page: u64) -> bool
+    ensures { λ r. ⌜ r ≡ (eqb reserved 0 && not (eqb page 4294967295)) ⌝ }
+{
+    if reserved != 0 {
+        return false;
+    }
+    page != 4294967295
+}
+
+// Whether the bytes at a place are a checkpoint in form.
 pub fn checkpoint_form(s: &[u8], at: usize) -> bool
     requires { ⌜ at + 25 ≤ length (now s) ⌝ }
     ensures { λ r. ⌜ r ≡ inForm checkpointBytes checkpointForm (part at 25 (now (s .entry))) ⌝ }
 {
-    if octets::load8(s, at) != 0 {
-        return false;
-    }
-    octets::load64(s, at + 17) != 18446744073709551615
+    let reserved = octets::load8(s, at);
+    let lsn = octets::load64(s, at + 17);
+    checkpoint_numbers(reserved, lsn)
 }
 
-// Whether the bytes at a place are an index entry's: the reserved byte is 0, neither the page nor the LSN is.
+// The checkpoint at a place as numbers: all are loaded before any is tested.
+fn checkpoint_row(s: &[u8], at: usize) -> Row
+    requires { ⌜ at + 25 ≤ length (now s) ⌝ }
+    ensures { λ r. ⌜ r ≡ rowOf Checkpoints (part at 25 (now (s .entry))) ⌝ }
+{
+    let reserved = octets::load8(s, at);
+    let high = octets::load64(s, at + 1);
+    let low = octets::load64(s, at + 9);
+    let lsn = octets::load64(s, at + 17);
+    let formed = checkpoint_numbers(reserved, lsn);
+    Row {
+        formed: formed,
+        high: high,
+        low: low,
+        page: 0,
+        lsn: lsn,
+    }
+}
+
+// Whether the bytes at a place are an index entry in form.
 pub fn entry_form(s: &[u8], at: usize) -> bool
     requires { ⌜ at + 29 ≤ length (now s) ⌝ }
     ensures { λ r. ⌜ r ≡ inForm entryBytes entryForm (part at 29 (now (s .entry))) ⌝ }
 {
-    if octets::load8(s, at) != 0 {
-        return false;
-    }
-    if octets::load32(s, at + 17) == 0 {
-        return false;
-    }
-    octets::load64(s, at + 21) != 18446744073709551615
+    let reserved = octets::load8(s, at);
+    let page = octets::load32(s, at + 17) as u64;
+    let lsn = octets::load64(s, at + 21);
+    entry_numbers(reserved, page, lsn)
 }
 
-// Whether the bytes at a place are a present page's: the reserved byte is 0, the page is not.
-pub fn present_form(s: &[u8], at: usize) -> bool
-    requires { ⌜ at + 21 ≤ length (now s) ⌝ }
-    ensures { λ r. ⌜ r ≡ inForm presentBytes presentForm (part at 21 (now (s .entry))) ⌝ }
+// The index entry at a place as numbers: all are loaded before any is tested.
+fn entry_row(s: &[u8], at: usize) -> Row
+    requires { ⌜ at + 29 ≤ length (now s) ⌝ }
+    ensures { λ r. ⌜ r ≡ rowOf Index (part at 29 (now (s .entry))) ⌝ }
 {
-    if octets::load8(s, at) != 0 {
-        return false;
-    }
-    octets::load32(s, at + 17) != 4294967295
-}
-
-// The size of a table's record.
-pub fn size(table: Keyed) -> usize
-    ensures { λ r. ⌜ r ≡ sizeOf table ⌝ }
-{
-    match table {
-        Keyed::Checkpoints => layout::CHECKPOINT,
-        Keyed::Index => layout::ENTRY,
-        Keyed::Presence => layout::PRESENT,
-    }
-}
-
-// Whether the record at a place is in form.
-fn row_form(s: &[u8], at: usize, table: Keyed) -> bool
-    requires { ⌜ at + sizeOf table ≤ length (now s) ⌝ }
-    ensures { λ r. ⌜ r ≡ rowForm table (part at (sizeOf table) (now (s .entry))) ⌝ }
-{
-    match table {
-        Keyed::Checkpoints => checkpoint_form(s, at),
-        Keyed::Index => entry_form(s, at),
-        Keyed::Presence => present_form(s, at),
-    }
-}
-
-// The page of the record at a place as its bytes have it.
-fn page_at(s: &[u8], at: usize, table: Keyed) -> u64
-    requires { ⌜ at + sizeOf table ≤ length (now s) ⌝ }
-    ensures { λ r. ⌜ r ≡ pageIn table (part at (sizeOf table) (now (s .entry))) ⌝ }
-{
-    match table {
-        Keyed::Checkpoints => 0,
-        Keyed::Index => octets::load32(s, at + 17) as u64,
-        Keyed::Presence => octets::load32(s, at + 17) as u64,
-    }
-}
-
-// The LSN of the record at a place as its bytes have it.
-fn lsn_at(s: &[u8], at: usize, table: Keyed) -> u64
-    requires { ⌜ at + sizeOf table ≤ length (now s) ⌝ }
-    ensures { λ r. ⌜ r ≡ lsnIn table (part at (sizeOf table) (now (s .entry))) ⌝ }
-{
-    match table {
-        Keyed::Checkpoints => octets::load64(s, at + 17),
-        Keyed::Index => octets::load64(s, at + 21),
-        Keyed::Presence => 0,
-    }
-}
-
-// The record at a place as numbers.
-fn row_at(s: &[u8], at: usize, table: Keyed) -> Row
-    requires { ⌜ at + sizeOf table ≤ length (now s) ⌝ }
-    ensures { λ r. ⌜ r ≡ rowOf table (part at (sizeOf table) (now (s .entry))) ⌝ }
-{
+    let reserved = octets::load8(s, at);
     let high = octets::load64(s, at + 1);
     let low = octets::load64(s, at + 9);
-    let page = page_at(s, at, table);
-    let lsn = lsn_at(s, at, table);
-    let formed = row_form(s, at, table);
+    let page = octets::load32(s, at + 17) as u64;
+    let lsn = octets::load64(s, at + 21);
+    let formed = entry_numbers(reserved, page, lsn);
     Row {
         formed: formed,
         high: high,
         low: low,
         page: page,
         lsn: lsn,
+    }
+}
+
+// Whether the bytes at a place are a present page in form.
+pub fn present_form(s: &[u8], at: usize) -> bool
+    requires { ⌜ at + 21 ≤ length (now s) ⌝ }
+    ensures { λ r. ⌜ r ≡ inForm presentBytes presentForm (part at 21 (now (s .entry))) ⌝ }
+{
+    let reserved = octets::load8(s, at);
+    let page = octets::load32(s, at + 17) as u64;
+    present_numbers(reserved, page)
+}
+
+// The present page at a place as numbers: all are loaded before any is tested.
+fn present_row(s: &[u8], at: usize) -> Row
+    requires { ⌜ at + 21 ≤ length (now s) ⌝ }
+    ensures { λ r. ⌜ r ≡ rowOf Presence (part at 21 (now (s .entry))) ⌝ }
+{
+    let reserved = octets::load8(s, at);
+    let high = octets::load64(s, at + 1);
+    let low = octets::load64(s, at + 9);
+    let page = octets::load32(s, at + 17) as u64;
+    let formed = present_numbers(reserved, page);
+    Row {
+        formed: formed,
+        high: high,
+        low: low,
+        page: page,
+        lsn: 0,
     }
 }
 
@@ -150,24 +168,34 @@ fn below(x: Row, y: Row) -> bool
     x.lsn < y.lsn
 }
 
-// Whether the keys of the first n records strictly rise and each is in form.
-fn rows_formed(s: &[u8], table: Keyed, n: usize) -> bool
-    requires { ⌜ 2 + n * sizeOf table ≤ length (now s) ⌝ }
-    ensures { λ r. ⌜ r ≡ rowsOk table n (now (s .entry)) ⌝ }
+// Whether t has a count that it can hold.
+fn count_fits(t: &[u8], stride: usize) -> bool
+    requires { ⌜ 0 < stride ⌝ }
+    ensures { λ r. ⌜ r ≡ (leb 2 (length (now (t .entry))) && leb (countOf (now (t .entry))) (capOf stride (now (t .entry)))) ⌝ }
+{
+    if t.len() < 2 {
+        return false;
+    }
+    table::count(t) <= table::capacity(t, stride)
+}
+
+// Whether the keys of the first n checkpoints strictly rise and each is in form.
+fn checkpoint_rows(s: &[u8], n: usize) -> bool
+    requires { ⌜ 2 + n * 25 ≤ length (now s) ⌝ }
+    ensures { λ r. ⌜ r ≡ rowsOk Checkpoints n (now (s .entry)) ⌝ }
 {
     if n == 0 {
         return true;
     }
-    let stride = size(table);
-    let mut last = row_at(s, 2, table);
+    let mut last = checkpoint_row(s, 2);
     if !last.formed {
         return false;
     }
     let mut at: usize = 2;
     let mut i: usize = 1;
     while i < n {
-        let next = at + stride;
-        let row = row_at(s, next, table);
+        let next = at + CHECKPOINT;
+        let row = checkpoint_row(s, next);
         if !row.formed {
             return false;
         }
@@ -181,39 +209,94 @@ fn rows_formed(s: &[u8], table: Keyed, n: usize) -> bool
     true
 }
 
-// Whether t is one of the three tables: a count that it can hold, keys that strictly rise, each record in form.
-fn table_formed(t: &[u8], table: Keyed) -> bool
-    ensures { λ r. ⌜ r ≡ tableOk table (now (t .entry)) ⌝ }
+// Whether the keys of the first n index entries strictly rise and each is in form.
+fn entry_rows(s: &[u8], n: usize) -> bool
+    requires { ⌜ 2 + n * 29 ≤ length (now s) ⌝ }
+    ensures { λ r. ⌜ r ≡ rowsOk Index n (now (s .entry)) ⌝ }
 {
-    if t.len() < 2 {
+    if n == 0 {
+        return true;
+    }
+    let mut last = entry_row(s, 2);
+    if !last.formed {
         return false;
     }
-    let n = table::count(t);
-    if table::capacity(t, size(table)) < n {
-        return false;
+    let mut at: usize = 2;
+    let mut i: usize = 1;
+    while i < n {
+        let next = at + ENTRY;
+        let row = entry_row(s, next);
+        if !row.formed {
+            return false;
+        }
+        if !below(last, row) {
+            return false;
+        }
+        last = row;
+        at = next;
+        i += 1;
     }
-    rows_formed(t, table, n)
+    true
 }
 
-// Whether t is a table of checkpoints.
+// Whether the keys of the first n present pages strictly rise and each is in form.
+fn present_rows(s: &[u8], n: usize) -> bool
+    requires { ⌜ 2 + n * 21 ≤ length (now s) ⌝ }
+    ensures { λ r. ⌜ r ≡ rowsOk Presence n (now (s .entry)) ⌝ }
+{
+    if n == 0 {
+        return true;
+    }
+    let mut last = present_row(s, 2);
+    if !last.formed {
+        return false;
+    }
+    let mut at: usize = 2;
+    let mut i: usize = 1;
+    while i < n {
+        let next = at + PRESENT;
+        let row = present_row(s, next);
+        if !row.formed {
+            return false;
+        }
+        if !below(last, row) {
+            return false;
+        }
+        last = row;
+        at = next;
+        i += 1;
+    }
+    true
+}
+
+// Whether t is a table of checkpoints: a count that it can hold, keys that strictly rise, each record in form (20).
 pub fn checkpoints_formed(t: &[u8]) -> bool
     ensures { λ r. ⌜ r ≡ checkpointsOk (now (t .entry)) ⌝ }
 {
-    table_formed(t, Keyed::Checkpoints)
+    if !count_fits(t, CHECKPOINT) {
+        return false;
+    }
+    checkpoint_rows(t, table::count(t))
 }
 
-// Whether t is a page index.
+// Whether t is a page index: a count that it can hold, keys that strictly rise, each record in form (20).
 pub fn index_formed(t: &[u8]) -> bool
     ensures { λ r. ⌜ r ≡ indexOk (now (t .entry)) ⌝ }
 {
-    table_formed(t, Keyed::Index)
+    if !count_fits(t, ENTRY) {
+        return false;
+    }
+    entry_rows(t, table::count(t))
 }
 
-// Whether t is a table of present pages.
+// Whether t is a table of present pages: a count that it can hold, keys that strictly rise, each record in form (20).
 pub fn presence_formed(t: &[u8]) -> bool
     ensures { λ r. ⌜ r ≡ presenceOk (now (t .entry)) ⌝ }
 {
-    table_formed(t, Keyed::Presence)
+    if !count_fits(t, PRESENT) {
+        return false;
+    }
+    present_rows(t, table::count(t))
 }
 
 // The key of a log's checkpoint at an LSN.

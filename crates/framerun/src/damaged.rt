@@ -68,23 +68,29 @@ fn refused(t: Tally, s: SegmentIdx) -> Tally {
     page(t2, s, 0, 1)
 }
 
-// A frame past the count, of a size or a last page alone; and a set that is not in normal form.
-fn segments(t: Tally) -> Tally {
+// Segments: a frame past the count, of a size or a last page alone; a count of none beside a frame; page 0; a count of windows that is too large.
+fn segment(k: u64) -> SegmentIdx {
     let set = window(1, 0, 4);
-    let t1 = refused(t, made(set, 1, 1, 1, 0));
-    let t2 = refused(t1, made(set, 1, 15, 0, 1));
-    let t3 = refused(t2, made(set, 0, 16, 0, 0));
-    let t4 = refused(t3, made(window(1, 0, 5), 1, 16, 0, 0));
-    let t5 = refused(t4, made(window(2, 0, 4), 1, 16, 0, 0));
-    refused(t5, made(window(33, 0, 4), 17, 16, 0, 0))
+    match k {
+        0 => made(set, 1, 1, 1, 0),
+        1 => made(set, 1, 15, 0, 1),
+        2 => made(set, 0, 16, 0, 0),
+        3 => made(window(1, 0, 5), 1, 16, 0, 0),
+        4 => made(window(2, 0, 4), 1, 16, 0, 0),
+        5 => made(window(33, 0, 4), 17, 16, 0, 0),
+        _ => made(set, 1, 16, 0, 0),
+    }
 }
 
-// The segment that these were made from is in form.
-fn control(t: Tally) -> Tally {
-    let s = made(window(1, 0, 4), 1, 16, 0, 0);
-    let t1 = tally::same(t, said::truth(frames::frames_ok(s)), 1);
-    let got = frames::frame_for(s, PageIdx(2));
-    tally::same_u32(t1, got.code, 0)
+// All of these; and the segment that they were made from, which is in form.
+fn segments(t: Tally) -> Tally {
+    let mut sum = tally::same(t, said::truth(frames::frames_ok(segment(6))), 1);
+    let mut k: u64 = 0;
+    while k < 6 {
+        sum = refused(sum, segment(k));
+        k += 1;
+    }
+    sum
 }
 
 // A range with a set.
@@ -103,20 +109,30 @@ fn joined(t: Tally, a: SegmentRange, b: SegmentRange, code: u32) -> Tally {
     asked::none(t1, ranges::join(b, a), code)
 }
 
-// A set that is not in normal form is 3, and a reversed range is 2 before that; also where the ranges do not touch.
-fn ranges_of(t: Tally, bad: PageSet) -> Tally {
+// A set that is not in normal form: page 0, no page in a window, a window past the count.
+fn bad(k: u64) -> PageSet {
+    match k {
+        0 => window(1, 0, 5),
+        1 => window(1, 5, 0),
+        _ => window(0, 0, 4),
+    }
+}
+
+// It is 3, also where the ranges do not touch; and a reversed range is 2 before that.
+fn ranges_of(t: Tally, pages: PageSet) -> Tally {
     let good = range(4, 8, sets::empty());
-    let t1 = joined(t, range(8, 9, bad), good, 3);
-    let t2 = joined(t1, range(20, 21, bad), good, 3);
-    let t3 = joined(t2, range(9, 8, bad), good, 2);
-    let t4 = joined(t3, range(8, 9, bad), range(8, 7, sets::empty()), 2);
-    joined(t4, range(0, 4, bad), range(4, 4, bad), 3)
+    let t1 = joined(t, range(8, 9, pages), good, 3);
+    let t2 = joined(t1, range(20, 21, pages), good, 3);
+    joined(t2, range(9, 8, pages), good, 2)
 }
 
 // All of them.
 pub fn all() -> Tally {
-    let t1 = control(segments(tally::none()));
-    let t2 = ranges_of(t1, window(1, 0, 5));
-    let t3 = ranges_of(t2, window(1, 5, 0));
-    ranges_of(t3, window(0, 0, 4))
+    let mut sum = segments(tally::none());
+    let mut k: u64 = 0;
+    while k < 3 {
+        sum = ranges_of(sum, bad(k));
+        k += 1;
+    }
+    sum
 }

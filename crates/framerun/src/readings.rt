@@ -28,14 +28,6 @@ fn no_frame(t: Tally, page: u32) -> Tally {
     asked::none(t, got, 0)
 }
 
-// P8: bytes 0 to 100 exclusive with {2,3}, 100 to 150 with {5,9}.
-fn p8(t: Tally) -> Tally {
-    let t1 = frame(t, 2, 0, 100, &[2u32, 3]);
-    let t2 = frame(t1, 3, 0, 100, &[2u32, 3]);
-    let t3 = frame(t2, 5, 100, 150, &[5u32, 9]);
-    frame(t3, 9, 100, 150, &[5u32, 9])
-}
-
 // The two frames of the list.
 fn listed(t: Tally) -> Tally {
     let got = frames::frame_list(plain::segment(reading()));
@@ -47,14 +39,22 @@ fn listed(t: Tally) -> Tally {
     asked::range(t2, second, plain::sid(), 100, 150, &[5u32, 9])
 }
 
-// P9: page 4 has no frame, though it lies in a span; nor have pages below the set and past it.
-fn p9(t: Tally) -> Tally {
-    let t1 = no_frame(t, 4);
-    let t2 = no_frame(t1, 1);
-    no_frame(t2, 10)
+// P8: bytes 0 to 100 exclusive with {2,3}, 100 to 150 with {5,9}. P9: page 4 has no frame; nor has any other page that is not in the set.
+fn page(t: Tally, page: u32) -> Tally {
+    match page {
+        2 | 3 => frame(t, page, 0, 100, &[2u32, 3]),
+        5 | 9 => frame(t, page, 100, 150, &[5u32, 9]),
+        _ => no_frame(t, page),
+    }
 }
 
-// Both readings.
+// Both readings, by the list and page by page.
 pub fn all() -> Tally {
-    p9(listed(p8(tally::none())))
+    let mut sum = listed(tally::none());
+    let mut p: u32 = 1;
+    while p < 12 {
+        sum = page(sum, p);
+        p += 1;
+    }
+    sum
 }

@@ -1,23 +1,26 @@
--- The rows of checkpoints: their bytes, as `checkpoint_row` stores them; and the loop that stores them one behind the other, whose first i rows are those of the
+-- The rows of checkpoints: their bytes; and the loop that stores them one behind the other, whose first i rows are those of the
 -- first i LSNs.
-use Prim.Native.Nat.{ℕ, suc, _+_, _-_, _*_, _^_, _≤_, _<_}
+use Prim.Native.Nat.{ℕ, suc, _+_, _-_, _*_, _≤_, _<_}
 use mathlib.Core.Path.{_≡_, refl, sym, ap, ap₂, _∙_}
 use mathlib.Core.List.{List, [], _∷_, _++_, map}
-use native.Mathlib.Nat.{zero-add}
 use native.Mathlib.Numerals.{add-one}
 use native.Mathlib.Omega.{arith}
-use lib.ListN.{length, take, getD, replicate, length-replicate}
+use lib.ListN.{length, take, getD}
 use lib.Seq.{take-suc}
-use Rattle.octets.specs.Bytes.{bytesOf, down, part, put}
+use Rattle.octets.specs.Bytes.{down, part, put}
 use Rattle.octets.proofs.Numbers as N
 use Rattle.octets.proofs.Places as P
 use Rattle.core.specs.declared.lsn.Lsn.{Lsn}
 use Rattle.rules.proofs.TableLaws.{map-append}
 use Rattle.table.specs.Table.{runs}
-use Rattle.table.proofs.Rows.{rows-le, runs-last, runs-same}
+use Rattle.table.proofs.Rows.{runs-last, runs-same}
 use Rattle.layout.specs.Records.{logLsnBytes, checkpointBytes}
 use Rattle.indexing.specs.Rows.{checkpoint, checkpointRow, listed, checkpointRows}
-use Rattle.indexing.proofs.EntryRows.{behind-zero}
+
+-- a checkpoint is its key
+pub key-checkpoint : (log : List ℕ) (n : ℕ) → logLsnBytes .spell (log, n) ≡ checkpointRow log n
+unfolding checkpointBytes
+key-checkpoint log n = refl
 
 checkpoint-row : (log : List ℕ) (n : ℕ) → checkpointRow log n ≡ 0 ∷ (log ++ down 8 n)
 unfolding checkpointBytes logLsnBytes
@@ -26,15 +29,6 @@ checkpoint-row log n = refl
 module _ (log : List ℕ) (h : length log ≡ 16) where
   pub checkpoint-long : (n : ℕ) → length (checkpointRow log n) ≡ 25
   checkpoint-long n = ap length (checkpoint-row log n) ∙ ap suc (P.length-two 16 8 log (down 8 n) h (N.length-down 8 n)) ∙ omega arith
-
-  -- two stores, one behind the other
-  pub checkpoint-stored : (n : ℕ) (t u : List ℕ) → t ≡ put 1 log (replicate 25 0) → u ≡ put 17 (bytesOf 8 (2 ^ 64 - 1 - n)) t → u ≡ checkpointRow log n
-  unfolding down
-  checkpoint-stored n t u e f =
-      let z : length (replicate {A = ℕ} 25 0) ≡ 25 = length-replicate {A = ℕ} 25 0 in
-      let a = P.stored 1 16 log (replicate 25 0) h e in
-      let b = P.then-stored a 8 (down 8 n) (N.length-down 8 n) (omega arith) f in
-      b .bytes ∙ behind-zero 24 (log ++ down 8 n) (b .long) ∙ sym (checkpoint-row log n)
 
 -- ---- the loop that stores them
 
@@ -60,9 +54,11 @@ module _ (log : List ℕ) (h : length log ≡ 16) (lsns : List Lsn) where
   unfolding runs
   stored-none t = refl
 
-  pub stored-more : (i : ℕ) (k t u : List ℕ) → i < length lsns → i * 25 + 25 ≤ length t → k ≡ checkpointRow log (getD lsns i (record { 0 = 0 }) .0) → u ≡ put (i * 25) k t
+  pub stored-more : (i : ℕ) (k t u : List ℕ) → i < length lsns → i * 25 + 25 ≤ length t → k ≡ logLsnBytes .spell (log, getD lsns i (record { 0 = 0 }) .0) → u ≡ put (i * 25) k t
       → runs i 25 0 t ≡ checkpointRows log (listed lsns i) → runs (i + 1) 25 0 u ≡ checkpointRows log (listed lsns (i + 1))
   stored-more i k t u l m e g w =
-      row-behind 25 i k t u (ap length e ∙ checkpoint-long log h (getD lsns i (record { 0 = 0 }) .0)) m g
-      ∙ ap₂ (λ (a : List (List ℕ)) (b : List ℕ). a ++ b ∷ []) w e
-      ∙ sym (ap (checkpointRows log) (listed-more lsns i l) ∙ rows-more log (listed lsns i) (getD lsns i (record { 0 = 0 }) .0))
+      let n : ℕ = getD lsns i (record { 0 = 0 }) .0 in
+      let f : k ≡ checkpointRow log n = e ∙ key-checkpoint log n in
+      row-behind 25 i k t u (ap length f ∙ checkpoint-long log h n) m g
+      ∙ ap₂ (λ (a : List (List ℕ)) (b : List ℕ). a ++ b ∷ []) w f
+      ∙ sym (ap (checkpointRows log) (listed-more lsns i l) ∙ rows-more log (listed lsns i) n)

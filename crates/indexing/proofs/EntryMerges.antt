@@ -1,7 +1,7 @@
 -- The loop that puts the entries in. It keeps the state of a merge from the back (`Merging`) in which the rows of the pages that are left are still to come: a turn
 -- merges the last of them, and where none is left the table is that of all the entries put in.
 use Prim.Native.Nat.{ℕ, _+_, _-_, _*_, _≤_, _<_}
-use mathlib.Core.Path.{_≡_, refl, sym, ap, _∙_, subst}
+use mathlib.Core.Path.{_≡_, sym, ap, _∙_, subst}
 use mathlib.Core.Bool.{true}
 use mathlib.Core.List.{List, [], _∷_, _++_}
 use native.Mathlib.Omega.{arith}
@@ -18,9 +18,9 @@ use Rattle.table.proofs.Keys.{rises-front}
 use Rattle.batch.specs.Batch.{putAll, news, Merged}
 use Rattle.batch.proofs.Puts.{news-rising}
 use Rattle.batch.proofs.Merges.{Merging, Ready, total-small, total-room, merging-start, merging-next, next-ready, merging-done}
+use Rattle.layout.specs.Records.{logPageLsnBytes}
 use Rattle.pagesdown.specs.Down.{pagesLeft}
-use Rattle.indexing.specs.Rows.{entryRow, withPage, entryRows}
-use Rattle.indexing.proofs.EntryRows.{row-long}
+use Rattle.indexing.specs.Rows.{withPage, entryRows}
 use Rattle.indexing.proofs.EntryTurns.{pageRows, rows-last, all-left, all-rise, all-long}
 
 -- the merge under way: t₀ was the table, `all` are the pages, ps are those that are left, c keys are new
@@ -30,7 +30,7 @@ pub record Entering (row : List ℕ) (c : ℕ) (all ps : List ℕ) (t₀ : List 
 
 -- ---- the start
 
-module _ (log : List ℕ) (h : length log ≡ 16) (lsn : ℕ) (row : List ℕ) (f : row ≡ entryRow log lsn 0) (s : PageSet) (e : normal s ≡ true) (c : ℕ) (t₀ : List ℕ)
+module _ (log : List ℕ) (h : length log ≡ 16) (lsn : ℕ) (row : List ℕ) (f : row ≡ logPageLsnBytes .spell (log, (0, lsn))) (s : PageSet) (e : normal s ≡ true) (c : ℕ) (t₀ : List ℕ)
     (w : wellOrdered 29 29 t₀ ≡ true) (n : c ≡ news 29 (entryRows log lsn (shown s)) (recs 29 t₀)) (r : fits 29 (putAll 29 (entryRows log lsn (shown s)) (recs 29 t₀)) t₀ ≡ true) where
   abbrev all : List ℕ
   all = pagesLeft (s .windows) (s .len) zeroWindow

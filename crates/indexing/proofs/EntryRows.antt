@@ -1,10 +1,10 @@
--- The rows of index entries: their bytes, as `entry_row` and `with_page` store them; and that the rows of rising pages rise, since all else in them is the same.
-use Prim.Native.Nat.{ℕ, suc, _+_, _-_, _^_, _≤_, _<_}
+-- The rows of index entries: their bytes, and what `with_page` makes of them; and that the rows of rising pages rise, since all else in them is the same.
+use Prim.Native.Nat.{ℕ, suc, _+_, _-_, _^_, _<_}
 use mathlib.Core.Path.{_≡_, refl, sym, ap, ap₂, _∙_}
 use mathlib.Core.Bool.{true}
-use mathlib.Core.List.{List, [], _∷_, _++_, map, append-nil, append-assoc}
+use mathlib.Core.List.{List, [], _∷_, _++_, map, append-assoc}
 use native.Mathlib.Omega.{arith}
-use lib.ListN.{length, take, drop, replicate, length-append, length-replicate, drop-of-length-le}
+use lib.ListN.{length, drop, length-append}
 use lib.Seq.{take-at, drop-at}
 use Rattle.octets.specs.Bytes.{bytesOf, down, part, put}
 use Rattle.octets.specs.Order.{lex, thenBy}
@@ -21,6 +21,11 @@ use Rattle.indexing.specs.Rows.{entryRow, withPage}
 
 -- ---- the bytes of a row
 
+-- an entry is its key
+pub key-row : (log : List ℕ) (lsn p : ℕ) → logPageLsnBytes .spell (log, (p, lsn)) ≡ entryRow log lsn p
+unfolding entryBytes
+key-row log lsn p = refl
+
 -- the page, and what stands before and after it
 entry-row : (log : List ℕ) (lsn p : ℕ) → entryRow log lsn p ≡ (0 ∷ log) ++ (bytesOf 4 p ++ down 8 lsn)
 unfolding entryBytes logPageLsnBytes
@@ -30,13 +35,6 @@ module _ (log : List ℕ) (h : length log ≡ 16) (lsn : ℕ) where
   pub row-long : (p : ℕ) → length (entryRow log lsn p) ≡ 29
   row-long p =
       ap length (entry-row log lsn p) ∙ P.length-two 17 12 (0 ∷ log) (bytesOf 4 p ++ down 8 lsn) (ap suc h ∙ omega arith) (P.length-two 4 8 (bytesOf 4 p) (down 8 lsn) (N.length-bytesOf 4 p) (N.length-down 8 lsn))
-
--- zeros with a run behind the first
-pub behind-zero : (n : ℕ) (xs : List ℕ) → length xs ≡ n → put 1 xs (replicate (suc n) 0) ≡ 0 ∷ xs
-unfolding put
-behind-zero n xs e =
-    let none : drop {A = ℕ} (1 + length xs) (replicate (suc n) 0) ≡ [] = drop-of-length-le {A = ℕ} (replicate (suc n) 0) {i = 1 + length xs} (omega (arith, length-replicate {A = ℕ} (suc n) 0)) in
-    ap (λ (l : List ℕ). 0 ∷ (xs ++ l)) none ∙ ap (λ (l : List ℕ). 0 ∷ l) (append-nil xs)
 
 -- a run over the midst
 put-mid : (k n : ℕ) (a b c xs : List ℕ) → length a ≡ k → length b ≡ n → length xs ≡ n → put k xs (a ++ (b ++ c)) ≡ a ++ (xs ++ c)
@@ -49,16 +47,6 @@ put-mid k n a b c xs e f g =
 module _ (log : List ℕ) (h : length log ≡ 16) (lsn : ℕ) where
   front-long : length (0 ∷ log) ≡ 17
   front-long = ap suc h ∙ omega arith
-
-  -- three stores, one behind the other
-  pub row-stored : (p : ℕ) (t u v : List ℕ) → t ≡ put 1 log (replicate 29 0) → u ≡ put 17 (bytesOf 4 p) t → v ≡ put 21 (bytesOf 8 (2 ^ 64 - 1 - lsn)) u → v ≡ entryRow log lsn p
-  unfolding down
-  row-stored p t u v e f g =
-      let n : length (replicate {A = ℕ} 29 0) ≡ 29 = length-replicate {A = ℕ} 29 0 in
-      let a = P.stored 1 16 log (replicate 29 0) h e in
-      let b = P.then-stored a 4 (bytesOf 4 p) (N.length-bytesOf 4 p) (omega arith) f in
-      let c = P.then-stored b 8 (down 8 lsn) (N.length-down 8 lsn) (omega arith) g in
-      c .bytes ∙ behind-zero 28 ((log ++ bytesOf 4 p) ++ down 8 lsn) (c .long) ∙ ap (λ (l : List ℕ). 0 ∷ l) (append-assoc log (bytesOf 4 p) (down 8 lsn)) ∙ sym (entry-row log lsn p)
 
   -- another page
   pub row-page : (p q : ℕ) → withPage (entryRow log lsn q) p ≡ entryRow log lsn p

@@ -1,7 +1,7 @@
 -- The turns of the loops over the entries of a commit. Both walk the pages of a set from the last down (`pagesdown`), and make each row from one row by putting
 -- the page in, so what is still to do is the rows of the pages that are left, and a turn takes the last of them.
 -- The loop that counts keeps "the count so far and that of what is left are that of all".
-use Prim.Native.Nat.{ℕ, _+_, _-_, _^_, _≤_, _<_}
+use Prim.Native.Nat.{ℕ, _+_, _-_}
 use mathlib.Core.Path.{_≡_, refl, sym, ap, ap₂, _∙_, subst}
 use mathlib.Core.Bool.{true}
 use mathlib.Core.List.{List, [], _∷_, _++_, map, map-map}
@@ -15,12 +15,12 @@ use Rattle.table.specs.Records.{rises}
 use Rattle.table.specs.Table.{Each}
 use Rattle.batch.specs.Batch.{lacks, news, fresh}
 use Rattle.batch.proofs.Puts.{fresh-append, news-rising}
-use Rattle.layout.specs.Records.{entryBytes}
+use Rattle.layout.specs.Records.{logPageLsnBytes, entryBytes}
 use Rattle.pagesdown.specs.Down.{pagesLeft}
 use Rattle.pagesdown.proofs.Walks.{walk-all}
 use Rattle.pagesdown.proofs.Climbs.{pages-climb}
 use Rattle.indexing.specs.Rows.{entry, entryRow, withPage, entryRows}
-use Rattle.indexing.proofs.EntryRows.{row-page, rows-rise, rows-long}
+use Rattle.indexing.proofs.EntryRows.{key-row, row-page, rows-rise, rows-long}
 
 -- the rows of pages, made from one row
 abbrev pub pageRows : List ℕ → List ℕ → List (List ℕ)
@@ -32,10 +32,10 @@ rows-last row ps qs p e = ap (pageRows row) e ∙ map-append (withPage row) qs (
 
 -- ---- the entries of the set s
 
-module _ (log : List ℕ) (h : length log ≡ 16) (lsn : ℕ) (row : List ℕ) (f : row ≡ entryRow log lsn 0) where
+module _ (log : List ℕ) (h : length log ≡ 16) (lsn : ℕ) (row : List ℕ) (f : row ≡ logPageLsnBytes .spell (log, (0, lsn))) where
   rows-are : (ps : List ℕ) → pageRows row ps ≡ map (entryRow log lsn) ps
   rows-are [] = refl
-  rows-are (p ∷ ps) = ap₂ (λ (r : List ℕ) (rs : List (List ℕ)). r ∷ rs) (ap (λ (x : List ℕ). withPage x p) f ∙ row-page log h lsn p 0) (rows-are ps)
+  rows-are (p ∷ ps) = ap₂ (λ (r : List ℕ) (rs : List (List ℕ)). r ∷ rs) (ap (λ (x : List ℕ). withPage x p) (f ∙ key-row log lsn 0) ∙ row-page log h lsn p 0) (rows-are ps)
 
   module _ (s : PageSet) (e : normal s ≡ true) where
     -- all of them are left at the start

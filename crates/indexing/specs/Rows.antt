@@ -1,4 +1,5 @@
--- What writing a commit adds to two tables, as rows in their byte forms: one index entry per page, and its checkpoints.
+-- What writing a commit adds to two tables, as rows in their byte forms: one index entry per page, and its checkpoints. For the log, the LSN and the lists of a
+-- commit the rows are those of the rules' `entriesOf` and `checkpointsOf` (proofs/OfCommits.antt).
 use mathlib.Core.List.{List, map}
 use Prim.Native.Nat.{ℕ}
 use lib.ListN.{take}
@@ -8,13 +9,11 @@ use Rattle.rules.specs.Records.{Id, Pages, Entry, Checkpoint}
 use Rattle.rules.specs.Pages.{pagesIn}
 use Rattle.layout.specs.Records.{entryBytes, checkpointBytes}
 
--- the index entry of a page
+-- ---- the index
+
+-- the entry of a page
 abbrev pub entry : Id → ℕ → ℕ → Entry
 entry log lsn p = record { log = log; page = p; lsn = lsn }
-
--- one per page of a set, as `entriesOf` has them for the log, the LSN and the pages of a commit
-abbrev pub entriesFor : Id → ℕ → Pages → List Entry
-entriesFor log lsn s = map (entry log lsn) (pagesIn s)
 
 -- its row
 abbrev pub entryRow : Id → ℕ → ℕ → List ℕ
@@ -24,22 +23,24 @@ entryRow log lsn p = entryBytes .spell (entry log lsn p)
 abbrev pub withPage : List ℕ → ℕ → List ℕ
 withPage row p = put 17 (bytesOf 4 p) row
 
--- all of them
+-- the rows of all pages of a set
 abbrev pub entryRows : Id → ℕ → Pages → List (List ℕ)
-entryRows log lsn s = map (entryBytes .spell) (entriesFor log lsn s)
+entryRows log lsn s = map (entryBytes .spell) (map (entry log lsn) (pagesIn s))
 
--- the checkpoints at LSNs, as `checkpointsOf` has them for the log and the listed LSNs of a commit
+-- ---- the checkpoints
+
+-- the checkpoint at an LSN
 abbrev pub checkpoint : Id → ℕ → Checkpoint
 checkpoint log n = record { log = log; lsn = n }
 
--- the row of one
+-- its row
 abbrev pub checkpointRow : Id → ℕ → List ℕ
 checkpointRow log n = checkpointBytes .spell (checkpoint log n)
 
--- the first n of eight LSNs
-abbrev pub listed : List Lsn → ℕ → List ℕ
-listed lsns n = map (λ (x : Lsn). x .0) (take n lsns)
-
--- all of them
+-- the rows of all LSNs of a list
 abbrev pub checkpointRows : Id → List ℕ → List (List ℕ)
 checkpointRows log ns = map (checkpointBytes .spell) (map (checkpoint log) ns)
+
+-- the first n of a commit's LSNs
+abbrev pub listed : List Lsn → ℕ → List ℕ
+listed lsns n = map (λ (x : Lsn). x .0) (take n lsns)

@@ -2,6 +2,7 @@
 // down, so that no buffer holds them all. And a checkpoint for each LSN that it lists, at most eight, in any order and with repeats.
 use core::id::LogId;
 use core::lsn::Lsn;
+use core::pageidx::PageIdx;
 use layout::CHECKPOINT;
 use layout::ENTRY;
 use pageset::PageSet;
@@ -13,20 +14,9 @@ ghost use Prim.Native.Nat.{_≤_};
 ghost use Rattle.pageset.specs.Sets.{shown, normal};
 ghost use Rattle.table.specs.Table.{runs, recs, laid, wellOrdered, fits};
 ghost use Rattle.batch.specs.Batch.{putAll, news};
-ghost use Rattle.indexing.specs.Rows.{entryRow, withPage, entryRows, checkpointRow, listed, checkpointRows};
+ghost use Rattle.indexing.specs.Rows.{withPage, entryRows, listed, checkpointRows};
 
-// The index entry of a page.
-fn entry_row(log: LogId, lsn: Lsn, page: u32) -> [u8; 29]
-    ensures { λ r. ⌜ r ≡ entryRow log (lsn .0) page ⌝ }
-{
-    let mut e = [0u8; 29];
-    octets::store_id(&mut e, 1, log);
-    octets::store32(&mut e, 17, page);
-    octets::store64(&mut e, 21, !lsn.0);
-    e
-}
-
-// An index entry with another page.
+// The index entry of a page, made from that of another.
 fn with_page(row: [u8; 29], page: u32) -> [u8; 29]
     ensures { λ r. ⌜ r ≡ withPage row page ⌝ }
 {
@@ -41,7 +31,7 @@ pub fn count_entries(t: &[u8], log: LogId, lsn: Lsn, set: PageSet) -> usize
     requires { ⌜ normal set ≡ true ⌝ }
     ensures { λ r. ⌜ r ≡ news 29 (entryRows log (lsn .0) (shown set)) (recs 29 (now (t .entry))) ⌝ }
 {
-    let row = entry_row(log, lsn, 0);
+    let row = entries::entry_key(log, PageIdx(0), lsn);
     let ws = set.windows;
     let mut c: usize = 0;
     let mut i = set.len;
@@ -66,7 +56,7 @@ pub fn put_entries(t: &mut [u8], log: LogId, lsn: Lsn, set: PageSet, fresh: usiz
     requires { ⌜ fits 29 (putAll 29 (entryRows log (lsn .0) (shown set)) (recs 29 (now t))) (now t) ≡ true ⌝ }
     ensures { λ _. ⌜ now (t .exit) ≡ laid (putAll 29 (entryRows log (lsn .0) (shown set)) (recs 29 (now (t .entry)))) (now (t .entry)) ⌝ }
 {
-    let row = entry_row(log, lsn, 0);
+    let row = entries::entry_key(log, PageIdx(0), lsn);
     let ws = set.windows;
     let count = table::count(t);
     let mut held = count;
@@ -87,16 +77,6 @@ pub fn put_entries(t: &mut [u8], log: LogId, lsn: Lsn, set: PageSet, fresh: usiz
     octets::store16(t, 0, count + fresh);
 }
 
-// The checkpoint at an LSN.
-fn checkpoint_row(log: LogId, lsn: Lsn) -> [u8; 25]
-    ensures { λ r. ⌜ r ≡ checkpointRow log (lsn .0) ⌝ }
-{
-    let mut k = [0u8; 25];
-    octets::store_id(&mut k, 1, log);
-    octets::store64(&mut k, 17, !lsn.0);
-    k
-}
-
 // The checkpoints at the first n of eight LSNs, one after another.
 fn checkpoint_rows(log: LogId, lsns: [Lsn; 8], n: usize) -> [u8; 200]
     requires { ⌜ n ≤ 8 ⌝ }
@@ -105,7 +85,7 @@ fn checkpoint_rows(log: LogId, lsns: [Lsn; 8], n: usize) -> [u8; 200]
     let mut rows = [0u8; 200];
     let mut i: usize = 0;
     while i < n {
-        let k = checkpoint_row(log, lsns[i]);
+        let k = entries::checkpoint_key(log, lsns[i]);
         octets::store_all(&mut rows, i * CHECKPOINT, &k);
         i += 1;
     }

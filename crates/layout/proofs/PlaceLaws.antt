@@ -1,20 +1,20 @@
 -- The byte forms at a place of lent bytes: what the form of each part asks of the bytes there, what they are read as, and what stores write. A form's fields
 -- stand one after another, so each law gives the parts of a form at their own places of the same bytes, and code that goes field by field cites them in turn.
-use Prim.Native.Nat.{ℕ, zero, suc, _+_, _-_, _^_, _<_, _≤_}
+use Prim.Native.Nat.{ℕ, suc, _+_, _-_, _^_, _<_, _≤_}
 use mathlib.Core.Path.{_≡_, refl, sym, ap, ap₂, _∙_}
 use mathlib.Core.List.{List, [], _∷_, _++_}
-use mathlib.Core.Option.{Option, none, some}
+use mathlib.Core.Option.{none, some}
 use mathlib.Core.Bool.{Bool, true, false, cond, _&&_, and-true, and-assoc}
 use native.Mathlib.Omega.{arith}
 use lib.Dec.{eqb, leb, ltb}
-use lib.ListN.{length, getD}
+use lib.ListN.{length}
 use borrow.Author.Tests.{eq-eqb, ne-eqb, le-leb, lt-ltb}
 use Rattle.octets.specs.Bytes.{be, bytesOf, part, put, AreBytes, allZero}
 use Rattle.octets.proofs.Places as P
 use Rattle.core.specs.Numbers.{counts, lastLsn}
 use Rattle.rules.specs.Lists.{all, given}
 use Rattle.rules.specs.Forms.{lsnForm, bytesForm}
-use Rattle.rules.proofs.TableLaws.{cases, and-both}
+use Rattle.rules.proofs.TableLaws.{and-both}
 use Rattle.layout.specs.Codecs.{Codec, number, raw, reserved, optional, pair, viewed, spelled, inForm}
 use Rattle.layout.proofs.SpellLaws as S
 

@@ -1,12 +1,11 @@
 -- The last page of a window. Its mask m has a highest bit t, so m less 2 ^ t is what is left of m by 2 ^ t: it has the bits of m below t, and no others
 -- (`bit-mod`). So the pages below t are those of both, page t is m's alone, and above it there is none.
-use Prim.Native.Nat.{ℕ, suc, _+_, _-_, _*_, _/_, _%_, _^_, _≤_, _<_}
-use mathlib.Core.Path.{_≡_, refl, sym, ap, ap₂, _∙_}
-use mathlib.Core.Bool.{Bool, true, false, cond, _&&_, and-true, and-false}
+use Prim.Native.Nat.{ℕ, suc, _+_, _-_, _*_, _%_, _^_, _≤_, _<_}
+use mathlib.Core.Path.{_≡_, refl, sym, ap, _∙_}
+use mathlib.Core.Bool.{Bool, true, false, _&&_, and-true, and-false}
 use mathlib.Core.List.{List, [], _∷_, _++_, append-nil}
 use native.Mathlib.Nat.{pow-suc}
 use native.Mathlib.Omega.{arith}
-use lib.Dec.{ltb}
 use lib.Count.{leadingZeros, leading-top}
 use lib.Arith.{digits-mod}
 use lib.Pow.{pow-pos}

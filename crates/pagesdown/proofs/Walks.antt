@@ -1,20 +1,19 @@
 -- A walk over the pages of a set from the last down yields them all, last first: at its start the pages of the set are left (`walk-all`), each step takes the last of
--- the pages that are left (`step-done`), and where they are counted down to 0 none is left (`walk-end`); `all-yielded` says it of the whole walk. Where the window under way has no page left, the
--- next one down has the last of them (`left-next`).
+-- the pages that are left (`step-done`), and where they are counted down to 0 none is left (`walk-end`); `all-yielded` says it of the whole walk.
+-- Where the window under way has no page left, the next one down has the last of them (`left-next`).
 use Prim.Native.Nat.{ℕ, zero, suc, _+_, _-_, _*_, _%_, _^_, _≤_, _<_}
 use mathlib.Core.Path.{_≡_, refl, sym, ap, _∙_, subst}
 use mathlib.Core.Logic.{⊎-elim}
 use mathlib.Core.Bool.{Bool, true, false, cond, _&&_}
 use mathlib.Core.List.{List, [], _∷_, _++_, append-nil, append-assoc, reverse, reverse-append}
-use native.Mathlib.Nat.{add-comm}
 use native.Mathlib.Omega.{arith}
 use borrow.Author.Tests.{eqb-true, eqb-false}
 use lib.Dec.{eqb, leb}
 use lib.ListN.{length, take, drop, getD, length-append}
-use lib.Seq.{take-suc, getD-take}
+use lib.Seq.{take-suc}
 use Rattle.pageset.specs.declared.Window.{Window}
 use Rattle.pageset.specs.declared.PageSet.{PageSet}
-use Rattle.pageset.specs.Sets.{bit, holds, shown, member, zeroWindow, blank, normal, normalForm}
+use Rattle.pageset.specs.Sets.{bit, shown, member, zeroWindow, blank, normal, normalForm}
 use Rattle.pageset.specs.Counts.{count}
 use Rattle.pageset.proofs.BitLaws.{bit-none}
 use Rattle.pageset.proofs.FormLaws.{Normal, normal-fact, and-snd}
@@ -186,6 +185,6 @@ yielded s e h (step {n} {m} {k} {page} {w} {rest} {ps} t y) =
     let left = subst (λ (i : ℕ). Walking s m rest i) less (d .1) in
     ap (λ (qs : List ℕ). page ∷ qs) (yielded s e {k = k} left y) ∙ sym (ap reverse (d .0) ∙ reverse-append l (page ∷ []))
 
--- as many steps as a set has pages yield its pages, the last first
+-- as many steps as a set has pages, from its last window on, yield its pages, the last first
 pub all-yielded : (s : PageSet) → normal s ≡ true → (ps : List ℕ) → Yields (s .windows) (s .len) zeroWindow (count (member s) (2 ^ 32)) ps → ps ≡ reverse (pagesIn (shown s))
 all-yielded s e ps y = yielded s e (walk-start s e (count (member s) (2 ^ 32)) refl) y ∙ ap reverse (walk-all s e)

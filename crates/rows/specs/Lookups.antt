@@ -1,5 +1,6 @@
 -- The first record at or after a key, and the records from a key to another: what a search in key order finds.
 use Prim.Native.Nat.{ℕ, zero, suc, _-_, Ordering}
+use mathlib.Core.Path.{_≡_}
 use mathlib.Core.Bool.{Bool, cond, not, _&&_}
 use mathlib.Core.List.{List, [], _∷_}
 use mathlib.Core.Option.{Option, none, some}
@@ -7,8 +8,13 @@ use lib.Dec.{isLe}
 use lib.ListN.{take, drop}
 use Rattle.core.specs.Orders.{isLt}
 use Rattle.rules.specs.Lists.{first}
+use Rattle.rules.specs.Tables.{get}
+use Rattle.table.specs.Records.{spot}
+use Rattle.table.specs.Table.{recs}
 use Rattle.table.specs.declared.Spot.{Spot}
 use Rattle.table.specs.declared.Spot.the-variants.{At, Gap}
+use Rattle.layout.specs.Codecs.{Codec}
+use Rattle.layout.specs.Tables.{tableIn}
 
 -- record i, if there is one
 abbrev pub nth : {A : Type 0} → ℕ → List A → Option A
@@ -38,3 +44,8 @@ module _ {R K : Type 0} (key : R → K) (order : K → K → Ordering) where
 abbrev pub atSpot : {A : Type 0} → Spot → List A → Option A
 atSpot (At i) l = nth i l
 atSpot (Gap i) l = none
+
+-- the spot o of a key x, whose bytes are kb, in bytes t with rows of s bytes: the place of the key's bytes, and the record there is the one that the rules find
+pub record FoundAt {R K : Type 0} (key : R → K) (order : K → K → Ordering) (c : Codec R) (s k : ℕ) (kb : List ℕ) (x : K) (t : List ℕ) (o : Spot) : Type 0 where
+  pub place : o ≡ spot k kb (recs s t)
+  pub says : atSpot o (tableIn c t .rows) ≡ get key order x (tableIn c t .rows)

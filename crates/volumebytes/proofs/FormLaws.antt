@@ -1,7 +1,7 @@
 -- What the form of a volume asks of the bytes at a place, field by field, as the code tests it: reserved bytes are 0, LSNs that are there are not 0, and what
 -- is missing is zero. Identifiers and the hash are any bytes.
 use Prim.Native.Nat.{ℕ, _+_, _≤_}
-use mathlib.Core.Path.{_≡_, refl, sym, ap, ap₂, _∙_}
+use mathlib.Core.Path.{_≡_, refl, ap, ap₂, _∙_}
 use mathlib.Core.List.{List}
 use mathlib.Core.Option.{Option}
 use mathlib.Core.Bool.{Bool, true, false, _&&_, and-true, and-assoc}
@@ -14,7 +14,7 @@ use Rattle.core.specs.Numbers.{counts}
 use Rattle.rules.specs.Lists.{given}
 use Rattle.rules.specs.Records.{Id, SyncPoint, Pending}
 use Rattle.rules.specs.Forms.{lsnForm, idForm, hashForm, syncForm, pendingForm, volumeForm}
-use Rattle.layout.specs.Codecs.{Codec, number, reserved, optional, pair, spelled, inForm}
+use Rattle.layout.specs.Codecs.{number, reserved, optional, pair, spelled, inForm}
 use Rattle.layout.specs.Values.{idBytes}
 use Rattle.layout.specs.Records.{hashBytes, syncBytes, pendingBytes, volumeBytes}
 use Rattle.layout.proofs.SpellLaws.{Steady, number-steady, raw-steady, reserved-steady, optional-steady, pair-steady}

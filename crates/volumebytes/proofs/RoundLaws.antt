@@ -17,13 +17,12 @@ use Rattle.layout.proofs.FormHolds.{volume-held}
 use Rattle.volume.specs.Volumes.{maybeLsnSays, syncSays, pendingSays, hashBeside, volumeSays}
 use Rattle.volume.specs.declared.volume.MaybeLsn.{MaybeLsn}
 use Rattle.volume.specs.declared.volume.MaybeLsn.the-variants as MaybeLsn
-use Rattle.volume.specs.declared.volume.SyncPoint.{SyncPoint}
 use Rattle.volume.specs.declared.volume.Sync.{Sync}
 use Rattle.volume.specs.declared.volume.Sync.the-variants as Sync
 use Rattle.volume.specs.declared.volume.PendingCommit.{PendingCommit}
 use Rattle.volume.specs.declared.volume.PendingCommit.the-variants as PendingCommit
 use Rattle.volume.specs.declared.volume.Volume.{Volume}
-use Rattle.volumebytes.specs.Laid.{markLaid, pointLaid, syncLaid, pendingLaid, hashLaid, volumeLaid}
+use Rattle.volumebytes.specs.Laid.{markLaid, syncLaid, pendingLaid, hashLaid, volumeLaid}
 
 -- ---- the rules' volume and the value
 

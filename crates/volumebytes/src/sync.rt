@@ -18,7 +18,7 @@ ghost use Rattle.rules.specs.Forms.{lsnForm, syncForm};
 ghost use Rattle.volume.specs.Volumes.{maybeLsnSays, syncSays};
 ghost use Rattle.layout.specs.Codecs.{number, optional, inForm};
 ghost use Rattle.layout.specs.Records.{syncBytes};
-ghost use Rattle.volumebytes.specs.Laid.{markLaid, pointLaid, syncLaid};
+ghost use Rattle.volumebytes.specs.Laid.{markLaid, syncLaid};
 
 // Whether the 9 bytes at a place are a watermark, or none.
 fn watermark_form(s: &[u8], at: usize) -> bool

@@ -1,25 +1,18 @@
 -- What the code of the table of volumes makes: a key's bytes, a row's bytes; and that room freed by a removal is used again. Lookups and stores are those of every
 -- table (crate rows), at the layout of volumes.
-use Prim.Native.Nat.{ℕ, suc, _+_, _<_}
-use mathlib.Core.Path.{_≡_, refl, sym, ap, _∙_}
-use mathlib.Core.List.{List, [], _∷_, _++_, append-nil}
-use mathlib.Core.Option.{some, Option·map}
+use Prim.Native.Nat.{ℕ, _+_}
+use mathlib.Core.Path.{_≡_, ap, _∙_}
+use mathlib.Core.List.{List, _∷_, _++_, append-nil}
+use mathlib.Core.Option.{some}
 use mathlib.Core.Bool.{true}
-use native.Mathlib.Omega.{arith}
-use lib.ListN.{length, replicate, take, drop}
+use lib.ListN.{length, replicate, drop}
 use Rattle.octets.specs.Bytes.{put}
 use Rattle.core.specs.Orders.{bytes}
 use Rattle.rules.specs.Records.{Id, Volume, volumeKey}
 use Rattle.rules.specs.Forms.{volumeForm}
 use Rattle.rules.specs.Tables.{fits, store, remove, sameId, getVolume}
-use Rattle.rules.proofs.TableLaws.{missing}
-use Rattle.table.specs.Records.{spot}
-use Rattle.table.specs.Table.{recs}
-use Rattle.table.specs.declared.Spot.{Spot}
-use Rattle.table.specs.declared.Spot.the-variants.{At, Gap}
 use Rattle.layout.specs.Records.{volumeBytes}
 use Rattle.layout.specs.Tables.{volumesIn, volumesOk, laidOver}
-use Rattle.rows.proofs.Finds.{get-gap}
 use Rattle.rows.proofs.Spots.{freed-room}
 use Rattle.rows.proofs.Tables.{OkId, volumes, volume-key}
 
@@ -30,13 +23,7 @@ key-made vid key l e = e ∙ ap (λ (n : ℕ). 0 ∷ (vid ++ drop (1 + n) (repli
 
 -- ---- room freed by a removal is used again
 
-module _ (t : List ℕ) (ok : volumesOk t ≡ true) (vid : Id) (l : OkId vid) (w : Volume) (f : volumeForm w ≡ true) where
-  -- a volume that is stored goes; then any other can be stored
-  pub room-used-again : (v : Volume) → getVolume (volumesIn t) vid ≡ some v
-      → let u = laidOver volumeBytes (remove (λ r. sameId vid (r .vid)) (volumesIn t)) t in (volumesOk u ≡ true) × (fits (store volumeKey bytes w (volumesIn u)) ≡ true)
-  room-used-again v e = go (spot 17 (0 ∷ vid) (recs 117 t)) refl
-    where
-      go : (o : Spot) → spot 17 (0 ∷ vid) (recs 117 t) ≡ o
-          → let u = laidOver volumeBytes (remove (λ r. sameId vid (r .vid)) (volumesIn t)) t in (volumesOk u ≡ true) × (fits (store volumeKey bytes w (volumesIn u)) ≡ true)
-      go (At i) p = freed-room volumes t ok (0 ∷ vid) vid (volume-key vid l) i p w f
-      go (Gap i) p = absurd (missing (get-gap volumes (0 ∷ vid) vid (volume-key vid l) t ok i p) e)
+-- a volume that is stored goes; then any one can be stored
+pub room-used-again : (t : List ℕ) → volumesOk t ≡ true → (vid : Id) → OkId vid → (v : Volume) → getVolume (volumesIn t) vid ≡ some v → (w : Volume) → volumeForm w ≡ true
+    → let u = laidOver volumeBytes (remove (λ r. sameId vid (r .vid)) (volumesIn t)) t in (volumesOk u ≡ true) × (fits (store volumeKey bytes w (volumesIn u)) ≡ true)
+room-used-again t ok vid l v e w f = freed-room volumes t ok (0 ∷ vid) vid (volume-key vid l) v e w f

@@ -1,12 +1,12 @@
 -- `indexing::checkpoint_rows` meets its contract. The invariant: the first i rows are those of the first i LSNs; the measure: n - i.
-use mathlib.Core.Path.{_≡_, ap, _∙_}
+use mathlib.Core.Path.{_≡_}
 use Prim.Native.Nat.{_-_, _≤_}
 use borrow.Author.Needs.{needs}
 use native.Mathlib.Omega.{arith}
 use lib.ListN.{length}
 use Rattle.table.specs.Table.{runs}
 use Rattle.indexing.specs.Rows.{listed, checkpointRows}
-use Rattle.indexing.proofs.CheckpointRows.{checkpoint-long, stored-none, stored-more}
+use Rattle.indexing.proofs.CheckpointRows.{stored-none, stored-more}
 use Rattle.indexing.proofs.checkpoint_rows.Statement.{statement}
 use Rattle.indexing.proofs.checkpoint_rows.Tie as tie
 
@@ -25,14 +25,14 @@ eight c = search needs
 loop-holds : tie.Need-loop-holds Inv-loop μ-loop
 loop-holds c = (omega arith, search needs, stored-none (c .args .log) (long (c)) (c .args .t2) _)
 
-mul-checkpoint-row : tie.Need-mul-checkpoint-row Inv-loop μ-loop
-mul-checkpoint-row c = omega arith
+mul-checkpoint-key : tie.Need-mul-checkpoint-key Inv-loop μ-loop
+mul-checkpoint-key c = omega arith
 
-array-copy-out-checkpoint-row : tie.Need-array-copy-out-checkpoint-row Inv-loop μ-loop
-array-copy-out-checkpoint-row c = omega arith
+array-copy-out-checkpoint-key : tie.Need-array-copy-out-checkpoint-key Inv-loop μ-loop
+array-copy-out-checkpoint-key c = omega arith
 
-checkpoint-row-requires : tie.Need-checkpoint-row-requires Inv-loop μ-loop
-checkpoint-row-requires c κs = search needs
+checkpoint-key-requires : tie.Need-checkpoint-key-requires Inv-loop μ-loop
+checkpoint-key-requires c κs = search needs
 
 slice-aggregate-store-all : tie.Need-slice-aggregate-store-all Inv-loop μ-loop
 slice-aggregate-store-all c = search needs
@@ -44,7 +44,9 @@ slice-aggregate-store-all-2 : tie.Need-slice-aggregate-store-all-2 Inv-loop μ-l
 slice-aggregate-store-all-2 c = search needs
 
 store-all-requires : tie.Need-store-all-requires Inv-loop μ-loop
-store-all-requires c κs = omega (arith, ap length (c .before .before .checkpoint-row .ensures) ∙ checkpoint-long (c .before .before .before .before .before .before .args .log) (long (c .before .before .before .before .before .before)) _, c .before .before .before .before .before .loop .inv .1)
+store-all-requires c κs =
+    let k : length (c .before .before .checkpoint-key .result) ≡ 25 = search needs in
+    omega (arith, c .before .before .before .before .before .loop .inv .1)
 
 add-i : tie.Need-add-i Inv-loop μ-loop
 add-i c = omega arith
@@ -58,7 +60,7 @@ loop-again c =
     let l = c .before .before .before .before .before .before .before .loop in (
       omega arith,
       omega (arith, c .before .store-all .kept .0, l .inv .1),
-      stored-more (a .log) (long (c .before .before .before .before .before .before .before .before)) (a .t2) (l .i) (c .before .before .before .before .checkpoint-row .result) (l .rows) _ (omega (arith, eight (c .before .before .before .before .before .before .before .before))) (omega (arith, l .inv .1)) (c .before .before .before .before .checkpoint-row .ensures) (c .before .store-all .ensures) (l .inv .2),
+      stored-more (a .log) (long (c .before .before .before .before .before .before .before .before)) (a .t2) (l .i) (c .before .before .before .before .checkpoint-key .result) (l .rows) _ (omega (arith, eight (c .before .before .before .before .before .before .before .before))) (omega (arith, l .inv .1)) (c .before .before .before .before .checkpoint-key .ensures) (c .before .store-all .ensures) (l .inv .2),
     )
 
 returns : tie.Need-returns Inv-loop μ-loop
@@ -74,9 +76,9 @@ checkpoint-rows-spec =
     Inv-loop
     μ-loop
     loop-holds
-    mul-checkpoint-row
-    array-copy-out-checkpoint-row
-    checkpoint-row-requires
+    mul-checkpoint-key
+    array-copy-out-checkpoint-key
+    checkpoint-key-requires
     slice-aggregate-store-all
     mul-store-all
     slice-aggregate-store-all-2

@@ -1,9 +1,4 @@
 -- `indexing::count_checkpoints` meets its contract: the rows are those of the checkpoints.
-use mathlib.Core.Path.{ap, _∙_}
-use mathlib.Core.List.{List}
-use Prim.Native.Nat.{ℕ}
-use Rattle.table.specs.Table.{recs}
-use Rattle.batch.specs.Batch.{news}
 use borrow.Author.Needs.{needs}
 use Rattle.indexing.proofs.count_checkpoints.Statement.{statement}
 use Rattle.indexing.proofs.count_checkpoints.Tie as tie

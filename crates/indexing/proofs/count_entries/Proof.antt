@@ -1,11 +1,10 @@
 -- `indexing::count_entries` meets its contract. The invariant: the walk over the set's pages (`Walking`), and the count so far and that of the pages that are left
 -- are the whole; the measure: n, the pages that are left.
-use mathlib.Core.Path.{_≡_, sym, ap, _∙_}
-use Prim.Native.Nat.{ℕ, _+_, _-_, _≤_, _<_}
+use mathlib.Core.Path.{_≡_, _∙_}
+use Prim.Native.Nat.{_+_, _-_, _≤_}
 use borrow.Author.Needs.{needs}
 use native.Mathlib.Omega.{arith}
-use lib.ListN.{length, getD}
-use Rattle.pageset.specs.declared.PageSet.{PageSet}
+use lib.ListN.{length}
 use Rattle.table.specs.Table.{recs}
 use Rattle.batch.specs.Batch.{fresh}
 use Rattle.pagesdown.specs.Down.{pagesLeft}
@@ -26,8 +25,8 @@ abbrev μ-loop : tie.MeasureT-loop
 long : (c : tie.Start Inv-loop μ-loop) → length (c .args .log) ≡ 16
 long c = search needs
 
-entry-row-requires : tie.Need-entry-row-requires Inv-loop μ-loop
-entry-row-requires c κs = search needs
+entry-key-requires : tie.Need-entry-key-requires Inv-loop μ-loop
+entry-key-requires c κs = search needs
 
 cardinality-requires : tie.Need-cardinality-requires Inv-loop μ-loop
 cardinality-requires c κs = search needs
@@ -80,7 +79,7 @@ loop-again c =
     step-done s (c .before .before .before .before .before .before .before .before .before .before .before .before .before .pre .1) (l .i) (l .w) (l .n) (l .inv .1) (c .before .before .before .before .before .before .before .loop-test .taken) (c .before .before .before .before .before .before .last-place .result) (c .before .before .before .before .before .before .last-place .ensures) (d .result .page) (d .result .windows) (d .result .rest) (d .ensures) in (
       omega (arith, c .before .lacking .ensures .1),
       q .1,
-      count-turn (c .before .before .before .before .before .before .before .before .before .before .before .entry-row .result) (recs 29 (c .before .before .before .before .before .before .before .before .before .before .before .before .before .args .t .now)) _ (l .c) (pagesLeft (s .windows) (l .i) (l .w)) (l .inv .2)
+      count-turn (c .before .before .before .before .before .before .before .before .before .before .before .entry-key .result) (recs 29 (c .before .before .before .before .before .before .before .before .before .before .before .before .before .args .t .now)) _ (l .c) (pagesLeft (s .windows) (l .i) (l .w)) (l .inv .2)
           (pagesLeft (s .windows) (d .result .windows) (d .result .rest)) (c .before .before .before .with-page .result) (d .result .page) (c .before .lacking .result) (q .0) (c .before .before .before .with-page .ensures) (c .before .lacking .ensures .0),
     )
 
@@ -89,8 +88,8 @@ returns c =
     let a = c .before .before .before .before .before .before .args in
     let l = c .before .loop in
     let z : l .n ≡ 0 = omega arith in
-    count-end (c .before .before .before .before .entry-row .result) (recs 29 (a .t .now)) _ (l .c) (pagesLeft (a .set .windows) (l .i) (l .w)) (l .inv .2) (walk-end (a .set) (c .before .before .before .before .before .before .pre .1) (l .i) (l .w) (l .n) (l .inv .1) z)
-    ∙ all-counted (a .log) (long (c .before .before .before .before .before .before)) (a .lsn .0) (c .before .before .before .before .entry-row .result) (c .before .before .before .before .entry-row .ensures) (a .set) (c .before .before .before .before .before .before .pre .1) (recs 29 (a .t .now))
+    count-end (c .before .before .before .before .entry-key .result) (recs 29 (a .t .now)) _ (l .c) (pagesLeft (a .set .windows) (l .i) (l .w)) (l .inv .2) (walk-end (a .set) (c .before .before .before .before .before .before .pre .1) (l .i) (l .w) (l .n) (l .inv .1) z)
+    ∙ all-counted (a .log) (long (c .before .before .before .before .before .before)) (a .lsn .0) (c .before .before .before .before .entry-key .result) (c .before .before .before .before .entry-key .ensures) (a .set) (c .before .before .before .before .before .before .pre .1) (recs 29 (a .t .now))
 
 pub count-entries-spec : {M : Type 1} → statement M
 count-entries-spec =
@@ -98,7 +97,7 @@ count-entries-spec =
     (tie.spec
     Inv-loop
     μ-loop
-    entry-row-requires
+    entry-key-requires
     cardinality-requires
     loop-holds
     last-place-requires

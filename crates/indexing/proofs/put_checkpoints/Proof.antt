@@ -1,11 +1,7 @@
 -- `indexing::put_checkpoints` meets its contract: the rows are those of the checkpoints.
-use mathlib.Core.Path.{_≡_, ap, _∙_}
-use mathlib.Core.List.{List}
-use Prim.Native.Nat.{ℕ, _*_, _≤_}
+use mathlib.Core.Path.{_≡_}
 use native.Mathlib.Omega.{arith}
 use lib.ListN.{length}
-use Rattle.table.specs.Table.{recs, laid, fits}
-use Rattle.batch.specs.Batch.{putAll}
 use borrow.Author.Needs.{needs}
 use Rattle.indexing.proofs.put_checkpoints.Statement.{statement}
 use Rattle.indexing.proofs.put_checkpoints.Tie as tie

@@ -2,20 +2,19 @@
 -- are left still to come (`Entering`); the measure: n, the pages that are left.
 use mathlib.Core.Path.{_≡_, refl, sym, ap, _∙_, subst}
 use mathlib.Core.List.{List, [], _∷_, _++_}
-use Prim.Native.Nat.{ℕ, _+_, _-_, _≤_, _<_}
+use Prim.Native.Nat.{ℕ, _+_, _-_}
 use borrow.Author.Needs.{needs}
 use native.Mathlib.Omega.{arith}
-use lib.ListN.{length, getD}
+use lib.ListN.{length}
 use Rattle.octets.specs.Bytes.{bytesOf}
 use Rattle.octets.specs.Bytes as B
 use Rattle.pageset.specs.Sets.{zeroWindow}
-use Rattle.table.specs.Table.{countOf}
 use Rattle.table.proofs.Checks.{well-two}
 use Rattle.batch.proofs.Merges.{Ready, total-small}
 use Rattle.pagesdown.specs.Down.{pagesLeft}
 use Rattle.pagesdown.proofs.Walks.{Walking, walk-start, walk-end, walk-place, step-ready, step-done}
-use Rattle.indexing.specs.Rows.{entryRow}
-use Rattle.indexing.proofs.EntryRows.{row-long}
+use Rattle.layout.specs.Records.{logPageLsnBytes}
+use Rattle.indexing.proofs.EntryRows.{key-row, row-long}
 use Rattle.indexing.proofs.EntryTurns.{pageRows}
 use Rattle.indexing.proofs.EntryMerges.{Entering, entering-ready, entering-start, entering-next, entering-turn, entering-end}
 use Rattle.indexing.proofs.put_entries.Statement.{statement}
@@ -33,19 +32,19 @@ abbrev μ-loop : tie.MeasureT-loop
 long : (c : tie.Start Inv-loop μ-loop) → length (c .args .log) ≡ 16
 long c = search needs
 
-row-of : (c : tie.Start Inv-loop μ-loop) (row : List ℕ) → row ≡ entryRow (c .args .log) (c .args .lsn .0) 0 → length row ≡ 29
-row-of c row e = ap length e ∙ row-long (c .args .log) (long c) (c .args .lsn .0) 0
+row-of : (c : tie.Start Inv-loop μ-loop) (row : List ℕ) → row ≡ logPageLsnBytes .spell (c .args .log, (0, c .args .lsn .0)) → length row ≡ 29
+row-of c row e = ap length (e ∙ key-row (c .args .log) (c .args .lsn .0) 0) ∙ row-long (c .args .log) (long c) (c .args .lsn .0) 0
 
 -- what is required of the entries
-ready : (c : tie.Start Inv-loop μ-loop) (row : List ℕ) → row ≡ entryRow (c .args .log) (c .args .lsn .0) 0
+ready : (c : tie.Start Inv-loop μ-loop) (row : List ℕ) → row ≡ logPageLsnBytes .spell (c .args .log, (0, c .args .lsn .0))
     → Ready 29 29 (c .args .fresh) (pageRows row (pagesLeft (c .args .set .windows) (c .args .set .len) zeroWindow)) (c .args .t .now)
 ready c row e =
     let a = c .args in
     let p = c .pre in
     entering-ready (a .log) (long c) (a .lsn .0) row e (a .set) (p .1 .0) (a .fresh) (a .t .now) (p .0) (p .1 .1 .0) (p .1 .1 .1)
 
-entry-row-requires : tie.Need-entry-row-requires Inv-loop μ-loop
-entry-row-requires c κs = search needs
+entry-key-requires : tie.Need-entry-key-requires Inv-loop μ-loop
+entry-key-requires c κs = search needs
 
 count-requires : tie.Need-count-requires Inv-loop μ-loop
 count-requires c κs = well-two 29 29 (c .before .before .before .before .args .t .now) (c .before .before .before .before .pre .0)
@@ -57,9 +56,9 @@ loop-holds : tie.Need-loop-holds Inv-loop μ-loop
 loop-holds c =
     let a = c .before .before .before .before .before .before .args in
     let p = c .before .before .before .before .before .before .pre in
-    let row = c .before .before .before .before .entry-row .result in
+    let row = c .before .before .before .before .entry-key .result in
     let all = pagesLeft (a .set .windows) (a .set .len) zeroWindow in
-    let begun = entering-start (a .log) (long (c .before .before .before .before .before .before)) (a .lsn .0) row (c .before .before .before .before .entry-row .ensures) (a .set) (p .1 .0) (a .fresh) (a .t .now) (p .0) (p .1 .1 .0) (p .1 .1 .1) in
+    let begun = entering-start (a .log) (long (c .before .before .before .before .before .before)) (a .lsn .0) row (c .before .before .before .before .entry-key .ensures) (a .set) (p .1 .0) (a .fresh) (a .t .now) (p .0) (p .1 .1 .0) (p .1 .1 .1) in
     (refl, walk-start (a .set) (p .1 .0) _ (c .cardinality .ensures), subst (λ (m : ℕ). Entering row (a .fresh) all all (a .t .now) m (a .fresh) (a .t .now)) (sym (c .before .count .ensures .0)) begun)
 
 last-place-requires : tie.Need-last-place-requires Inv-loop μ-loop
@@ -99,8 +98,8 @@ merge-next-requires c κs =
     let a = c .before .before .before .before .before .before .before .before .before .before .before .before .before .before .args in
     let l = c .before .before .before .before .before .before .before .loop in
     let d = c .before .before .before .next-down in
-    let row = c .before .before .before .before .before .before .before .before .before .before .before .before .entry-row .result in
-    entering-next row (row-of (c .before .before .before .before .before .before .before .before .before .before .before .before .before .before) row (c .before .before .before .before .before .before .before .before .before .before .before .before .entry-row .ensures)) (a .fresh) (pagesLeft (a .set .windows) (a .set .len) zeroWindow) (a .t .now) (ready (c .before .before .before .before .before .before .before .before .before .before .before .before .before .before) row (c .before .before .before .before .before .before .before .before .before .before .before .before .entry-row .ensures))
+    let row = c .before .before .before .before .before .before .before .before .before .before .before .before .entry-key .result in
+    entering-next row (row-of (c .before .before .before .before .before .before .before .before .before .before .before .before .before .before) row (c .before .before .before .before .before .before .before .before .before .before .before .before .entry-key .ensures)) (a .fresh) (pagesLeft (a .set .windows) (a .set .len) zeroWindow) (a .t .now) (ready (c .before .before .before .before .before .before .before .before .before .before .before .before .before .before) row (c .before .before .before .before .before .before .before .before .before .before .before .before .entry-key .ensures))
     (pagesLeft (a .set .windows) (l .i) (l .w)) (pagesLeft (a .set .windows) (d .result .windows) (d .result .rest)) (d .result .page) (stepped (c .before .before .before) .0)
     (c .before .before .with-page .result) (c .before .before .with-page .ensures) (l .held) (l .coming) (l .t) (l .inv .2)
 
@@ -116,11 +115,11 @@ loop-again c =
     let l = c .before .before .before .before .before .before .before .before .before .before .before .loop in
     let d = c .before .before .before .before .before .before .before .next-down in
     let m = c .before .before .before .merge-next in
-    let row = c .before .before .before .before .before .before .before .before .before .before .before .before .before .before .before .before .entry-row .result in
+    let row = c .before .before .before .before .before .before .before .before .before .before .before .before .before .before .before .before .entry-key .result in
     let q = stepped (c .before .before .before .before .before .before .before) in (
       omega (arith, m .kept .0, l .inv .0),
       q .1,
-      entering-turn row (row-of (c .before .before .before .before .before .before .before .before .before .before .before .before .before .before .before .before .before .before) row (c .before .before .before .before .before .before .before .before .before .before .before .before .before .before .before .before .entry-row .ensures)) (a .fresh) (pagesLeft (a .set .windows) (a .set .len) zeroWindow) (a .t .now) (ready (c .before .before .before .before .before .before .before .before .before .before .before .before .before .before .before .before .before .before) row (c .before .before .before .before .before .before .before .before .before .before .before .before .before .before .before .before .entry-row .ensures))
+      entering-turn row (row-of (c .before .before .before .before .before .before .before .before .before .before .before .before .before .before .before .before .before .before) row (c .before .before .before .before .before .before .before .before .before .before .before .before .before .before .before .before .entry-key .ensures)) (a .fresh) (pagesLeft (a .set .windows) (a .set .len) zeroWindow) (a .t .now) (ready (c .before .before .before .before .before .before .before .before .before .before .before .before .before .before .before .before .before .before) row (c .before .before .before .before .before .before .before .before .before .before .before .before .before .before .before .before .entry-key .ensures))
           (pagesLeft (a .set .windows) (l .i) (l .w)) (pagesLeft (a .set .windows) (d .result .windows) (d .result .rest)) (d .result .page) (q .0)
           (c .before .before .before .before .before .before .with-page .result) (c .before .before .before .before .before .before .with-page .ensures) (l .held) (l .coming) (l .t) (l .inv .2) (m .result .held) (m .result .fresh) _ (m .ensures),
     )
@@ -128,8 +127,8 @@ loop-again c =
 add-store16 : tie.Need-add-store16 Inv-loop μ-loop
 add-store16 c =
     let a = c .before .before .before .before .before .before .before .before .before .args in
-    let row = c .before .before .before .before .before .before .before .entry-row .result in
-    omega (arith, c .before .before .before .before .count .ensures .0, total-small 29 29 (a .fresh) (pageRows row (pagesLeft (a .set .windows) (a .set .len) zeroWindow)) (a .t .now) (ready (c .before .before .before .before .before .before .before .before .before) row (c .before .before .before .before .before .before .before .entry-row .ensures)))
+    let row = c .before .before .before .before .before .before .before .entry-key .result in
+    omega (arith, c .before .before .before .before .count .ensures .0, total-small 29 29 (a .fresh) (pageRows row (pagesLeft (a .set .windows) (a .set .len) zeroWindow)) (a .t .now) (ready (c .before .before .before .before .before .before .before .before .before) row (c .before .before .before .before .before .before .before .entry-key .ensures)))
 
 store16-requires : tie.Need-store16-requires Inv-loop μ-loop
 store16-requires c κs = omega (arith, c .before .before .loop .inv .0, well-two 29 29 (c .before .before .before .before .before .before .before .before .before .args .t .now) (c .before .before .before .before .before .before .before .before .before .pre .0))
@@ -143,7 +142,7 @@ returns c =
     let p = c .before .before .before .before .before .before .before .before .before .before .before .before .pre in
     let l = c .before .before .before .before .before .loop in
     let z : l .n ≡ 0 = omega arith in
-    entering-end (a .log) (long (c .before .before .before .before .before .before .before .before .before .before .before .before)) (a .lsn .0) (c .before .before .before .before .before .before .before .before .before .before .entry-row .result) (c .before .before .before .before .before .before .before .before .before .before .entry-row .ensures) (a .set) (p .1 .0) (a .fresh) (a .t .now) (p .0) (p .1 .1 .0) (p .1 .1 .1)
+    entering-end (a .log) (long (c .before .before .before .before .before .before .before .before .before .before .before .before)) (a .lsn .0) (c .before .before .before .before .before .before .before .before .before .before .entry-key .result) (c .before .before .before .before .before .before .before .before .before .before .entry-key .ensures) (a .set) (p .1 .0) (a .fresh) (a .t .now) (p .0) (p .1 .1 .0) (p .1 .1 .1)
     (pagesLeft (a .set .windows) (l .i) (l .w)) (l .held) (l .coming) (l .t) _ (l .inv .2) (walk-end (a .set) (p .1 .0) (l .i) (l .w) (l .n) (l .inv .1) z)
     (c .before .before .store16 .ensures ∙ ap (λ (m : ℕ). B.put 0 (bytesOf 2 (m + a .fresh)) (l .t)) (c .before .before .before .before .before .before .before .count .ensures .0))
 
@@ -153,7 +152,7 @@ put-entries-spec =
     (tie.spec
     Inv-loop
     μ-loop
-    entry-row-requires
+    entry-key-requires
     count-requires
     cardinality-requires
     loop-holds

@@ -13,7 +13,9 @@ sub-t9 : tie.Need-sub-t9
 sub-t9 c = search needs
 
 returns : tie.Need-returns
-returns c = let e = (eq-eqb (c .before .before .before .before .args .w .mask) 0 (c .before .before .if1 .taken)) in record { last = rw e (c .before .take-last .ensures); begun = rw e }
+returns c =
+    let e = eq-eqb (c .before .before .before .before .args .w .mask) 0 (c .before .before .if1 .taken) in
+    record { last = rw e (c .before .take-last .ensures); begun = rw e }
 
 take-last-requires-2 : tie.Need-take-last-requires-2
 take-last-requires-2 c κs =
@@ -21,7 +23,9 @@ take-last-requires-2 c κs =
     (p .0, p .1)
 
 returns-2 : tie.Need-returns-2
-returns-2 c = let e = (ne-eqb (c .before .before .before .before .args .w .mask) 0 (c .before .before .if1 .left)) in record { last = rw e (c .before .take-last2 .ensures); begun = rw e }
+returns-2 c =
+    let e = ne-eqb (c .before .before .before .before .args .w .mask) 0 (c .before .before .if1 .left) in
+    record { last = rw e (c .before .take-last2 .ensures); begun = rw e }
 
 pub next-down-spec : {M : Type 1} → statement M
 next-down-spec =

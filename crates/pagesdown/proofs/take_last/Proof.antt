@@ -1,5 +1,4 @@
 -- `pagesdown::take_last` meets its contract: the highest bit of a mask that is not 0 is within the mask, and is the window's last page.
-use Prim.Native.Nat.{_<_, _^_}
 use borrow.Author.Needs.{needs}
 use native.Mathlib.Omega.{arith}
 use Rattle.pagesdown.proofs.LastLaws.{bit-small, bit-reach, taken}

@@ -1,4 +1,4 @@
--- The spot of the key is the place of the identifier: the law `spot-says`.
+-- The spot of the key is the place of the identifier: the law `spot-found`.
 use borrow.Author.Needs.{needs}
 use native.Mathlib.Omega.{arith}
 use mathlib.Core.Path.{_≡_, ap, _∙_}
@@ -8,7 +8,7 @@ use lib.ListN.{length}
 use Rattle.table.specs.Records.{spot}
 use Rattle.table.specs.Table.{recs}
 use Rattle.rows.proofs.Rows.{formed-well}
-use Rattle.rows.proofs.Spots.{spot-says}
+use Rattle.rows.proofs.Spots.{spot-found}
 use Rattle.rows.proofs.Tables.{volumes, volume-key}
 use Rattle.volumes.proofs.find_volume.Statement.{statement}
 use Rattle.volumes.proofs.find_volume.Tie as tie
@@ -27,10 +27,7 @@ find-requires : tie.Need-find-requires
 find-requires c κs = let a = c .before .before .before in ((omega arith, omega arith, omega arith), formed-well volumes (a .args .t .now) (a .pre))
 
 returns : tie.Need-returns
-returns c =
-    let a = c .before .before .before .before in
-    let p = c .find .ensures ∙ ap (λ (k : List ℕ). spot 17 k (recs 117 (a .args .t .now))) (c .before .before .volume-key .ensures) in
-    record { place = p; says = spot-says volumes (a .args .t .now) (a .pre) (0 ∷ a .args .vid) (a .args .vid) (volume-key (a .args .vid) (long a)) _ p }
+returns c = let a = c .before .before .before .before in spot-found volumes (a .args .t .now) (a .pre) (0 ∷ a .args .vid) (a .args .vid) (volume-key (a .args .vid) (long a)) _ (c .find .ensures ∙ ap (λ (k : List ℕ). spot 17 k (recs 117 (a .args .t .now))) (c .before .before .volume-key .ensures))
 
 pub find-volume-spec : {M : Type 1} → statement M
 find-volume-spec =

@@ -1,3 +1,4 @@
+-- The three ways out are the three cases of the flag.
 use borrow.Author.Needs.{needs}
 use native.Mathlib.Omega.{arith}
 use Prim.Native.Nat.{_+_}
@@ -8,45 +9,32 @@ use Rattle.layout.specs.Codecs.{number}
 use Rattle.layout.proofs.PlaceLaws.{flag-none, flag-wrong, flag-there, lsn-at}
 use Rattle.volumebytes.proofs.sync.watermark_form.Statement.{statement}
 use Rattle.volumebytes.proofs.sync.watermark_form.Tie as tie
-use Rattle.volumebytes.proofs.sync.watermark_form.Reads as reads
-use Rattle.volumebytes.proofs.sync.watermark_form.Lts as lts
-use Rattle.octets.proofs.all_zero.Reads as all-zero-reads
-use Rattle.octets.proofs.load64.Reads as load64-reads
-use Rattle.octets.proofs.load8.Reads as load8-reads
 
--- src/sync.rt:26:9
 load8-requires : tie.Need-load8-requires
 load8-requires c κs = search needs
 
--- src/sync.rt:28:28
 add-all-zero : tie.Need-add-all-zero
 add-all-zero c = search needs
 
--- src/sync.rt:28:9
 all-zero-requires : tie.Need-all-zero-requires
 all-zero-requires c κs = search needs
 
--- src/sync.rt:28:9
 returns : tie.Need-returns
 returns c =
     let t = c .before .before .before .before in
     flag-none (t .args .s .now) (λ j. c .before .before .before .shared-slice-known .given j .fits) (t .args .at) (number 8) lsnForm (t .pre) _ (c .before .before .load8 .ensures) _ (c .before .if1 .taken) (c .all-zero .ensures)
 
--- src/sync.rt:31:9
 returns-2 : tie.Need-returns-2
 returns-2 c =
     let t = c .before .before .before .before in
     flag-wrong (t .args .s .now) (λ j. c .before .before .before .shared-slice-known .given j .fits) (t .args .at) (number 8) lsnForm (t .pre) _ (c .before .before .load8 .ensures) (c .before .if1 .left) (c .if2 .taken)
 
--- src/sync.rt:33:19
 add-load64 : tie.Need-add-load64
 add-load64 c = search needs
 
--- src/sync.rt:33:9
 load64-requires : tie.Need-load64-requires
 load64-requires c κs = search needs
 
--- src/sync.rt:22:1
 returns-3 : tie.Need-returns-3
 returns-3 c =
     let t = c .before .before .before .before .before in
