@@ -1,4 +1,4 @@
-// The table of commits in lent bytes: its keys, where a commit stands, and single fields of a stored commit, read where they stand.
+// The table of commits in lent bytes: its check, its keys, where a commit stands, and single fields of a stored commit, read where they stand.
 use commit::Presence;
 use commitbytes::commit_form;
 use commitbytes::fields;
