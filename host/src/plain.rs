@@ -172,6 +172,36 @@ pub fn snapshot_head(snapshot: &[u8], log: &mut [u8; 16], lsn: &mut u64) -> Repl
     unsafe { raw::sigatuda_snapshot_head(snapshot.as_ptr(), snapshot.len(), log, lsn) }
 }
 
+/// Whether bytes are a table of volumes: 20 where they are not.
+pub fn volumes_formed(volumes: &[u8]) -> Reply {
+    unsafe { raw::sigatuda_volumes_formed(volumes.as_ptr(), volumes.len()) }
+}
+
+/// Whether bytes are a table of tags: 20 where they are not.
+pub fn tags_formed(tags: &[u8]) -> Reply {
+    unsafe { raw::sigatuda_tags_formed(tags.as_ptr(), tags.len()) }
+}
+
+/// Whether bytes are a table of commits: 20 where they are not.
+pub fn commits_formed(commits: &[u8]) -> Reply {
+    unsafe { raw::sigatuda_commits_formed(commits.as_ptr(), commits.len()) }
+}
+
+/// Whether bytes are a table of checkpoints: 20 where they are not.
+pub fn checkpoints_formed(checkpoints: &[u8]) -> Reply {
+    unsafe { raw::sigatuda_checkpoints_formed(checkpoints.as_ptr(), checkpoints.len()) }
+}
+
+/// Whether bytes are a page index: 20 where they are not.
+pub fn index_formed(index: &[u8]) -> Reply {
+    unsafe { raw::sigatuda_index_formed(index.as_ptr(), index.len()) }
+}
+
+/// Whether bytes are a table of present pages: 20 where they are not.
+pub fn presence_formed(presence: &[u8]) -> Reply {
+    unsafe { raw::sigatuda_presence_formed(presence.as_ptr(), presence.len()) }
+}
+
 /// The number of the byte forms that the archive keeps.
 pub fn format() -> u32 {
     unsafe { raw::sigatuda_format() }

@@ -58,6 +58,13 @@ unsafe extern "C" {
     pub(crate) fn sigatuda_snapshot_new(log: *const [u8; 16], start: u64, end: u64, count: u32, out: *mut u8, out_len: usize) -> Reply;
     pub(crate) fn sigatuda_snapshot_append(snapshot: *const u8, snapshot_len: usize, log: *const [u8; 16], start: u64, end: u64, out: *mut u8, out_len: usize) -> Reply;
     pub(crate) fn sigatuda_snapshot_head(snapshot: *const u8, snapshot_len: usize, log: *mut [u8; 16], lsn: *mut u64) -> Reply;
+    // tables
+    pub(crate) fn sigatuda_volumes_formed(volumes: *const u8, volumes_len: usize) -> Reply;
+    pub(crate) fn sigatuda_tags_formed(tags: *const u8, tags_len: usize) -> Reply;
+    pub(crate) fn sigatuda_commits_formed(commits: *const u8, commits_len: usize) -> Reply;
+    pub(crate) fn sigatuda_checkpoints_formed(checkpoints: *const u8, checkpoints_len: usize) -> Reply;
+    pub(crate) fn sigatuda_index_formed(index: *const u8, index_len: usize) -> Reply;
+    pub(crate) fn sigatuda_presence_formed(presence: *const u8, presence_len: usize) -> Reply;
     // the integrator
     pub(crate) fn sigatuda_format() -> u32;
     pub(crate) fn sigatuda_record_size(table: u32) -> u32;

@@ -1,5 +1,5 @@
 //! The six tables, in bytes that the caller lends. A type for each keeps them from being swapped, and Rust's borrows keep them apart.
-use crate::Refusal;
+use crate::{Refusal, plain};
 use crate::records::{Checkpoint, Commit, IndexEntry, PresentPage, Record, Tag, Volume};
 use core::marker::PhantomData;
 
@@ -57,6 +57,27 @@ impl<'a, R: Record> Table<'a, R> {
     pub fn records(&self) -> impl Iterator<Item = Result<R, Refusal>> + '_ {
         let records = self.bytes.get(2..).unwrap_or(&[]).chunks_exact(R::SIZE);
         records.take(self.held().unwrap_or(0)).map(crate::bytes::read_exact)
+    }
+
+    /// Whether the bytes are a table: a count that fits, keys that rise, each record in its form. Every call on a table asks this first (20).
+    ///
+    /// ```
+    /// use sigatuda::Index;
+    /// let mut bytes = [0; Index::bytes_for(1)];
+    /// assert!(Index::lend(&mut bytes).is_formed());
+    /// bytes[1] = 1; // one entry, of page 0
+    /// assert!(!Index::lend(&mut bytes).is_formed());
+    /// ```
+    pub fn is_formed(&self) -> bool {
+        let check = match R::TABLE {
+            0 => plain::volumes_formed,
+            1 => plain::tags_formed,
+            2 => plain::commits_formed,
+            3 => plain::checkpoints_formed,
+            4 => plain::index_formed,
+            _ => plain::presence_formed,
+        };
+        check(self.bytes).code == 0
     }
 
     /// Its bytes.

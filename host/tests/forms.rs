@@ -109,7 +109,15 @@ fn reads<R: Record>(bytes: &[u8]) -> bool {
 #[test]
 fn tables() {
     let readers = [reads::<Volume>, reads::<Tag>, reads::<Commit>, reads::<Checkpoint>, reads::<IndexEntry>, reads::<PresentPage>];
-    for (seed, (kind, reads)) in TABLES.iter().zip(readers).enumerate() {
+    let checks = [
+        plain::volumes_formed,
+        plain::tags_formed,
+        plain::commits_formed,
+        plain::checkpoints_formed,
+        plain::index_formed,
+        plain::presence_formed,
+    ];
+    for (seed, ((kind, reads), check)) in TABLES.iter().zip(readers).zip(checks).enumerate() {
         let spoil = |form: &mut Vec<u8>, r: &mut Random| {
             if form.len() >= 2 {
                 damage::table(kind, form, r);
@@ -122,6 +130,8 @@ fn tables() {
             |form| {
                 let formed = kind.formed(form);
                 assert_eq!(reads(form), formed, "{}: {form:02x?}", kind.name);
+                let reply = check(form);
+                assert_eq!((reply.code, reply.found), if formed { (0, 1) } else { (20, 0) }, "{}: {form:02x?}", kind.name);
                 formed
             },
         );

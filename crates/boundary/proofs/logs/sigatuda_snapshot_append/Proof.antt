@@ -9,8 +9,8 @@ use Rattle.arguments.specs.Replies.{none-under}
 use Rattle.arguments.specs.Snapshots.{snapshotIn, snapshotLeft, orThree}
 use Rattle.arguments.proofs.SnapshotLaws.{answer-formed, answer-append, left-snapshot, laid-code, append-early, append-few, append-formed, append-unformed}
 use borrow.Author.Needs.{needs}
-use Rattle.boundary.proofs.volumes.sigatuda_snapshot_append.Statement.{statement}
-use Rattle.boundary.proofs.volumes.sigatuda_snapshot_append.Tie as tie
+use Rattle.boundary.proofs.logs.sigatuda_snapshot_append.Statement.{statement}
+use Rattle.boundary.proofs.logs.sigatuda_snapshot_append.Tie as tie
 
 snapshot-arg-requires : tie.Need-snapshot-arg-requires
 snapshot-arg-requires c κs = search needs

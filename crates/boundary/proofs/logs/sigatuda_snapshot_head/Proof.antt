@@ -11,8 +11,8 @@ use Rattle.arguments.specs.Replies.{valueOr}
 use Rattle.arguments.specs.Snapshots.{headSays}
 use Rattle.arguments.proofs.SnapshotLaws.{arg-says, head-says, head-lsns, head-order, head-unformed, head-done}
 use borrow.Author.Needs.{needs}
-use Rattle.boundary.proofs.volumes.sigatuda_snapshot_head.Statement.{statement}
-use Rattle.boundary.proofs.volumes.sigatuda_snapshot_head.Tie as tie
+use Rattle.boundary.proofs.logs.sigatuda_snapshot_head.Statement.{statement}
+use Rattle.boundary.proofs.logs.sigatuda_snapshot_head.Tie as tie
 
 snapshot-arg-requires : tie.Need-snapshot-arg-requires
 snapshot-arg-requires c κs = search needs

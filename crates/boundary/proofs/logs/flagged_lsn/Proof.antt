@@ -2,8 +2,8 @@
 use mathlib.Core.Path.{refl}
 use Rattle.octets.specs.Guards.{if-eq, if-ne}
 use Rattle.boundary.specs.Flags.{flagged}
-use Rattle.boundary.proofs.volumes.flagged_lsn.Statement.{statement}
-use Rattle.boundary.proofs.volumes.flagged_lsn.Tie as tie
+use Rattle.boundary.proofs.logs.flagged_lsn.Statement.{statement}
+use Rattle.boundary.proofs.logs.flagged_lsn.Tie as tie
 
 returns : tie.Need-returns
 unfolding flagged

@@ -3,8 +3,8 @@ use mathlib.Core.Path.{ap, ap₂, _∙_}
 use Rattle.rules.specs.Sync.{changes}
 use Rattle.arguments.specs.Replies.{valueOr}
 use borrow.Author.Needs.{needs}
-use Rattle.boundary.proofs.volumes.sigatuda_changes.Statement.{statement}
-use Rattle.boundary.proofs.volumes.sigatuda_changes.Tie as tie
+use Rattle.boundary.proofs.logs.sigatuda_changes.Statement.{statement}
+use Rattle.boundary.proofs.logs.sigatuda_changes.Tie as tie
 
 flagged-lsn-requires : tie.Need-flagged-lsn-requires
 flagged-lsn-requires c κs = search needs

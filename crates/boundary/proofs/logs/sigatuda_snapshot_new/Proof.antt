@@ -5,8 +5,8 @@ use Rattle.rules.specs.Arguments.{snapshotNew}
 use Rattle.volume.specs.Snapshots.{laidAnswer}
 use Rattle.arguments.proofs.SnapshotLaws.{answer-formed, left-snapshot, new-early, new-few}
 use borrow.Author.Needs.{needs}
-use Rattle.boundary.proofs.volumes.sigatuda_snapshot_new.Statement.{statement}
-use Rattle.boundary.proofs.volumes.sigatuda_snapshot_new.Tie as tie
+use Rattle.boundary.proofs.logs.sigatuda_snapshot_new.Statement.{statement}
+use Rattle.boundary.proofs.logs.sigatuda_snapshot_new.Tie as tie
 
 log-range-requires : tie.Need-log-range-requires
 log-range-requires c κs = search needs
