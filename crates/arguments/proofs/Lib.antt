@@ -1,4 +1,5 @@
 pub mod ArgLaws
 pub mod EarlyLaws
+pub mod SegmentLaws
 pub mod SetLaws
 pub mod SnapshotLaws

@@ -1,8 +1,8 @@
 -- Sets across the boundary: an answer by value and what is left of it, and that a rule leaves one thing only.
 -- An answer under 1, 2 or 3 is put first, then the lent slice is looked at, then 22 or the set is put: the order of the rule. Assumes nothing.
-use Prim.Native.Nat.{ℕ, _<_, _≤_}
+use Prim.Native.Nat.{ℕ, _<_}
 use mathlib.Core.Path.{_≡_, refl, sym, ap, ap₂, _∙_, subst}
-use mathlib.Core.Logic.{_⊎_, inl, inr}
+use mathlib.Core.Logic.{inl, inr}
 use mathlib.Core.List.{List}
 use mathlib.Core.Bool.{Bool, true, false, cond, not, _&&_}
 use native.Mathlib.Omega.{arith}
@@ -19,7 +19,7 @@ use Rattle.pageset.specs.Sets.{normal, blank, normalForm, rising, windowForms, 
 use Rattle.pageset.specs.Says.{IsSet, Gives, GivesOr22, refusedSet, emptySet, common, left}
 use Rattle.pageset.proofs.ResultLaws.{one-set}
 use Rattle.pageset.proofs.FormLaws.{and-snd}
-use Rattle.layout.specs.Codecs.{Codec, inForm}
+use Rattle.layout.specs.Codecs.{inForm}
 use Rattle.layout.proofs.HoldLaws.{in-form}
 use Rattle.layout.proofs.FormHolds.{set-held}
 use Rattle.layout.specs.Values.{setBytes, windowBytes}
@@ -36,12 +36,16 @@ pub set-size : setBytes .size ≡ 385
 unfolding setBytes windowBytes
 set-size = refl
 
--- a set in normal form fills a lent slice of its size
-pub fills : (s : PageSet) (was : List ℕ) → normal s ≡ true → length was ≡ 385 → put 0 (setBytes .spell (shown s)) was ≡ setBytes .spell (shown s)
+-- a set in normal form has 385 bytes
+pub set-long : (s : PageSet) → normal s ≡ true → length (setBytes .spell (shown s)) ≡ 385
 unfolding normal
-fills s was h e =
+set-long s h =
     let f : normalForm (shown s) ≡ true = and-snd (leb (s .len) 32 && eqb (length (s .windows)) 32 && blank (drop (s .len) (s .windows))) (normalForm (shown s)) h in
-    put-all (setBytes .spell (shown s)) was (set-held (shown s) f .long ∙ set-size ∙ sym e)
+    set-held (shown s) f .long ∙ set-size
+
+-- so it fills a lent slice of its size
+pub fills : (s : PageSet) (was : List ℕ) → normal s ≡ true → length was ≡ 385 → put 0 (setBytes .spell (shown s)) was ≡ setBytes .spell (shown s)
+fills s was h e = put-all (setBytes .spell (shown s)) was (set-long s h ∙ sym e)
 
 -- ---- an answer by value, as it is put
 
@@ -151,7 +155,7 @@ module _ (found found′ : ℕ) (was : List ℕ) (a : SetAnswer) where
   same-found h = by-code (eqb (a .code) 0) refl h
 
 -- an answer under 0 is in normal form, and so is a refusal's empty set
-empty-normal : normal emptySet ≡ true
+pub empty-normal : normal emptySet ≡ true
 unfolding normal blank normalForm rising windowForms holds bit maskAt
 empty-normal = refl
 

@@ -1,6 +1,6 @@
 -- Snapshots across the boundary: the bytes of an argument and the value that they become, an answer by value and what is left of it. What is read of bytes has
 -- at most 8 ranges, so the value is in form, and the call by value says 1, 2 and the ninth range's 3; the form of the bytes is 3 in the same turn. Assumes nothing.
-use Prim.Native.Nat.{ℕ, _+_, _-_, _*_, _≤_, _<_, zero, suc, min}
+use Prim.Native.Nat.{ℕ, _+_, _-_, _*_, _≤_, zero, suc, min}
 use mathlib.Core.Path.{_≡_, refl, sym, ap, ap₂, _∙_}
 use mathlib.Core.List.{List, [], _∷_, _++_, map}
 use mathlib.Core.Option.{Option, none, some}
@@ -8,11 +8,10 @@ use mathlib.Core.Bool.{Bool, true, false, cond, _&&_}
 use native.Mathlib.Omega.{arith}
 use borrow.Author.Tests.{eq-eqb, ne-eqb, le-leb, ltb-true}
 use lib.Dec.{eqb, leb, ltb}
-use lib.ListN.{length, drop, replicate, length-append, length-map}
+use lib.ListN.{length, replicate, length-append, length-map}
 use lib.Seq.{drop-at}
-use Rattle.octets.specs.Bytes.{be, part, put}
+use Rattle.octets.specs.Bytes.{be, part}
 use Rattle.octets.specs.Order.{lex, order, thenBy}
-use Rattle.octets.proofs.Places.{put-all}
 use Rattle.core.specs.Answers.{Answer, refused, done, ask, code, _>>_}
 use Rattle.rules.specs.Lists.{all}
 use Rattle.rules.specs.Records.{Range, Snapshot}
@@ -25,11 +24,10 @@ use Rattle.volume.specs.declared.snapshot.LogRange.{LogRange}
 use Rattle.volume.proofs.SnapshotLaws.{laid-says, in-form}
 use Rattle.table.specs.Table.{runs}
 use Rattle.table.proofs.Rows.{length-runs}
-use Rattle.layout.specs.Codecs.{Codec, spelled}
+use Rattle.layout.specs.Codecs.{spelled}
 use Rattle.layout.specs.Values.{rangeBytes, snapshotBytes}
 use Rattle.arguments.specs.declared.Reply.{Reply}
 use Rattle.arguments.specs.Replies.{none-under, value, given}
-use Rattle.arguments.specs.Sets.{sized}
 use Rattle.arguments.specs.Snapshots.{snapshotIn, snapshotFormed, appendIn, headIn, headSays, snapshotLeft, snapshotPut, orThree}
 use Rattle.arguments.proofs.ArgLaws.{whole}
 use Rattle.arguments.proofs.SetLaws.{Early}

@@ -1,4 +1,5 @@
 pub mod Args
 pub mod Replies
+pub mod Segments
 pub mod Sets
 pub mod Snapshots

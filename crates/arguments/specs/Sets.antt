@@ -12,7 +12,6 @@ use Rattle.pageset.specs.declared.SetAnswer.{SetAnswer}
 use Rattle.pageset.specs.declared.CutAnswer.{CutAnswer}
 use Rattle.pageset.specs.Sets.{shown}
 use Rattle.pageset.specs.Says.{IsSet, Over32}
-use Rattle.layout.specs.Codecs.{Codec}
 use Rattle.layout.specs.Values.{setBytes}
 use Rattle.arguments.specs.declared.Reply.{Reply}
 use Rattle.arguments.specs.Replies.{none-under}

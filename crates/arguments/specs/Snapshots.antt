@@ -13,7 +13,7 @@ use Rattle.volume.specs.declared.volume.MaybeLsn.the-variants as MaybeLsn
 use Rattle.volume.specs.declared.snapshot.Head.{Head}
 use Rattle.volume.specs.declared.snapshot.SnapshotAnswer.{SnapshotAnswer}
 use Rattle.volume.specs.Snapshots.{snapshotSays, headOf}
-use Rattle.layout.specs.Codecs.{Codec, spelled}
+use Rattle.layout.specs.Codecs.{spelled}
 use Rattle.layout.specs.Values.{snapshotBytes}
 use Rattle.arguments.specs.declared.Reply.{Reply}
 use Rattle.arguments.specs.Replies.{none-under, value}

@@ -15,7 +15,7 @@ ghost use Rattle.arguments.specs.Args.{notASet, setArg};
 ghost use Rattle.arguments.specs.Sets.{early, setPut, cutPut};
 
 // A set that is not in normal form.
-fn not_a_set() -> PageSet
+pub fn not_a_set() -> PageSet
     ensures { λ r. ⌜ r ≡ notASet ⌝ }
 {
     let none = Window { index: 0, mask: 0 };

@@ -2,7 +2,6 @@
 use Prim.Native.Nat.{ℕ}
 use mathlib.Core.List.{List, [], _∷_}
 use lib.ListN.{getD}
-use Rattle.layout.specs.Codecs.{Codec}
 use Rattle.layout.specs.Records.{volumeBytes, tagBytes, commitBytes, checkpointBytes, entryBytes, presentBytes}
 
 -- the sizes of the tables' records: volumes, tags, commits, checkpoints, index, presence

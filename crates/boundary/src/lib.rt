@@ -2,5 +2,6 @@
 // answer; what is lent for the answer is written only then.
 pub mod forms;
 pub mod numbers;
+pub mod segments;
 pub mod sets;
 pub mod volumes;

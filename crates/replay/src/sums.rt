@@ -4,10 +4,11 @@ use plainset::tally;
 use plainset::tally::Tally;
 use std::num;
 
-// One tally for each kind.
+// A tally for each kind, and the records that are skipped: of calls that are not exported.
 pub struct Sums {
     pub numbers: Tally,
     pub sets: Tally,
+    pub segments: Tally,
     pub volumes: Tally,
     pub skipped: u64,
 }
@@ -17,6 +18,7 @@ pub fn none() -> Sums {
     Sums {
         numbers: tally::none(),
         sets: tally::none(),
+        segments: tally::none(),
         volumes: tally::none(),
         skipped: 0,
     }
@@ -34,6 +36,10 @@ pub fn counted(s: Sums, call: u32, same: bool) -> Sums {
         sums.sets = tally::same(sums.sets, got, 1);
         return sums;
     }
+    if call == 24 {
+        sums.segments = tally::same(sums.segments, got, 1);
+        return sums;
+    }
     if call < 27 {
         sums.skipped = num::wrapping_add_u64(sums.skipped, 1);
         return sums;
@@ -46,8 +52,9 @@ pub fn counted(s: Sums, call: u32, same: bool) -> Sums {
 pub fn report(s: Sums) {
     tally::report(b"LSNs, pages and counts", s.numbers);
     tally::report(b"page sets", s.sets);
+    tally::report(b"frames of pages", s.segments);
     tally::report(b"changes and snapshots", s.volumes);
-    io::write_all(STDOUT_FILENO, b"frames and joins: ");
+    io::write_all(STDOUT_FILENO, b"frame lists, bytes of frames and joins: ");
     io::print_decimal(STDOUT_FILENO, s.skipped);
     io::write_all(STDOUT_FILENO, b" skipped\n");
 }
