@@ -1,5 +1,5 @@
-// Asks the exported functions what the original was asked, and compares the answers with those that it gave: the records of sample.bin, in the form that
-// oracle/SAMPLE.md gives. A record is answered as it was where the number, whether there is an answer, and every byte that the call leaves of zeros are.
+// Asks the exported functions what the original was asked, and compares their answers with its own: the records of sample.bin, in the form of oracle/SAMPLE.md.
+// A record is answered as it was where the number, whether there is an answer, and every byte that was lent, zero before the call, are the recorded ones.
 use libc::STDOUT_FILENO;
 use sums::Sums;
 
@@ -33,8 +33,8 @@ fn tell(number: u64, call: u32) {
     io::write_all(STDOUT_FILENO, b", differs\n");
 }
 
-// All records up to the end of the file; the first of those that differ are named. A proved loop ends, and nothing says that a file does: so the records
-// are counted, up to more than there are.
+// All records up to the end of the file; the first 20 that differ are named. A proved loop has to end, and nothing says that a file does: so the loop counts
+// records, up to more than there are.
 fn all(fd: i32) -> Sums {
     let mut sums = sums::none();
     let mut number: u64 = 0;
@@ -58,6 +58,7 @@ fn all(fd: i32) -> Sums {
     sums
 }
 
+// Replays the sample and writes what was compared, or why it cannot be opened.
 fn main() {
     let path = b"sample.bin";
     let fd = os::open_read(path);

@@ -8,6 +8,7 @@ pub fn filled(fd: i32, bytes: &mut [u8]) -> bool {
     io::read_full(fd, bytes) == bytes.len()
 }
 
+// A byte as a number.
 fn wide(x: u8) -> u32 {
     x as u32
 }
