@@ -1,4 +1,4 @@
-//! The recorded answers of the original (oracle/sample.bin, in the form of oracle/SAMPLE.md), asked of the archive again.
+//! The recorded answers of the original (crates/replay/data/sample.bin, in the form of oracle/SAMPLE.md), asked of the archive again.
 #[allow(dead_code)] // records are written where the original runs
 #[path = "sample/ops.rs"]
 mod ops;
@@ -9,7 +9,7 @@ use ops::Record;
 
 #[test]
 fn the_originals_answers() {
-    let bytes = include_bytes!("../../oracle/sample.bin");
+    let bytes = include_bytes!("../../crates/replay/data/sample.bin");
     let (mut rest, mut records, mut of_each) = (&bytes[..], 0, [0; 256]);
     while !rest.is_empty() {
         let at = bytes.len() - rest.len();

@@ -1,0 +1,60 @@
+// How many records were replayed and how many differed, by the kind of call.
+use libc::STDOUT_FILENO;
+use plainset::tally;
+use plainset::tally::Tally;
+use std::num;
+
+// A tally for each kind, and the records that are skipped: of calls that are not exported.
+pub struct Sums {
+    pub numbers: Tally,
+    pub sets: Tally,
+    pub segments: Tally,
+    pub volumes: Tally,
+    pub skipped: u64,
+}
+
+// No record yet.
+pub fn none() -> Sums {
+    Sums {
+        numbers: tally::none(),
+        sets: tally::none(),
+        segments: tally::none(),
+        volumes: tally::none(),
+        skipped: 0,
+    }
+}
+
+// One record more: its call, and whether it was answered as it was.
+pub fn counted(s: Sums, call: u32, same: bool) -> Sums {
+    let got = if same { 1 } else { 0 };
+    let mut sums = s;
+    if call < 10 {
+        sums.numbers = tally::same(sums.numbers, got, 1);
+        return sums;
+    }
+    if call < 22 {
+        sums.sets = tally::same(sums.sets, got, 1);
+        return sums;
+    }
+    if call == 24 {
+        sums.segments = tally::same(sums.segments, got, 1);
+        return sums;
+    }
+    if call < 27 {
+        sums.skipped = num::wrapping_add_u64(sums.skipped, 1);
+        return sums;
+    }
+    sums.volumes = tally::same(sums.volumes, got, 1);
+    sums
+}
+
+// Writes a line for each kind.
+pub fn report(s: Sums) {
+    tally::report(b"LSNs, pages and counts", s.numbers);
+    tally::report(b"page sets", s.sets);
+    tally::report(b"frames of pages", s.segments);
+    tally::report(b"changes and snapshots", s.volumes);
+    io::write_all(STDOUT_FILENO, b"frame lists, bytes of frames and joins: ");
+    io::print_decimal(STDOUT_FILENO, s.skipped);
+    io::write_all(STDOUT_FILENO, b" skipped\n");
+}
