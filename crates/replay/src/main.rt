@@ -3,12 +3,12 @@
 use libc::STDOUT_FILENO;
 use sums::Sums;
 
+mod logs;
 mod numbers;
 mod record;
 mod segments;
 mod sets;
 mod sums;
-mod volumes;
 
 // Whether the next record of a call is answered as it was.
 fn same(call: u32, fd: i32) -> bool {
@@ -21,7 +21,7 @@ fn same(call: u32, fd: i32) -> bool {
     if call < 27 {
         return segments::same(call, fd);
     }
-    volumes::same(call, fd)
+    logs::same(call, fd)
 }
 
 // Says which record differs.

@@ -9,7 +9,7 @@ pub struct Sums {
     pub numbers: Tally,
     pub sets: Tally,
     pub segments: Tally,
-    pub volumes: Tally,
+    pub logs: Tally,
     pub skipped: u64,
 }
 
@@ -19,7 +19,7 @@ pub fn none() -> Sums {
         numbers: tally::none(),
         sets: tally::none(),
         segments: tally::none(),
-        volumes: tally::none(),
+        logs: tally::none(),
         skipped: 0,
     }
 }
@@ -44,7 +44,7 @@ pub fn counted(s: Sums, call: u32, same: bool) -> Sums {
         sums.skipped = num::wrapping_add_u64(sums.skipped, 1);
         return sums;
     }
-    sums.volumes = tally::same(sums.volumes, got, 1);
+    sums.logs = tally::same(sums.logs, got, 1);
     sums
 }
 
@@ -53,7 +53,7 @@ pub fn report(s: Sums) {
     tally::report(b"LSNs, pages and counts", s.numbers);
     tally::report(b"page sets", s.sets);
     tally::report(b"frames of pages", s.segments);
-    tally::report(b"changes and snapshots", s.volumes);
+    tally::report(b"changes and snapshots", s.logs);
     io::write_all(STDOUT_FILENO, b"frame lists, bytes of frames and joins: ");
     io::print_decimal(STDOUT_FILENO, s.skipped);
     io::write_all(STDOUT_FILENO, b" skipped\n");

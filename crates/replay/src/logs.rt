@@ -1,7 +1,7 @@
 // Calls 27 to 30: what changed in a log, and snapshots, 262 bytes each.
 use crate::record::filled;
 use crate::record::replied;
-use boundary::volumes;
+use boundary::logs;
 use octets::load_id;
 use octets::load32;
 use octets::load64;
@@ -18,7 +18,7 @@ fn changes(fd: i32) -> bool {
     let head = load64(record, 16);
     let mut start: u64 = 0;
     let mut end: u64 = 0;
-    let r = volumes::sigatuda_changes(
+    let r = logs::sigatuda_changes(
         load32(record, 0),
         base,
         load32(record, 12),
@@ -47,7 +47,7 @@ fn new(fd: i32) -> bool {
     let end = load64(record, 24);
     let count = load32(record, 32);
     let mut out = [0u8; 262];
-    let r = volumes::sigatuda_snapshot_new(&log, start, end, count, &mut out);
+    let r = logs::sigatuda_snapshot_new(&log, start, end, count, &mut out);
     if !octets::same(record, 38, &out, 0, 262) {
         return false;
     }
@@ -65,7 +65,7 @@ fn append(fd: i32) -> bool {
     let start = load64(record, 278);
     let end = load64(record, 286);
     let mut out = [0u8; 262];
-    let r = volumes::sigatuda_snapshot_append(&record[0..262], &log, start, end, &mut out);
+    let r = logs::sigatuda_snapshot_append(&record[0..262], &log, start, end, &mut out);
     if !octets::same(record, 296, &out, 0, 262) {
         return false;
     }
@@ -81,7 +81,7 @@ fn head(fd: i32) -> bool {
     let record: &[u8] = &room;
     let mut log = [0u8; 16];
     let mut lsn: u64 = 0;
-    let r = volumes::sigatuda_snapshot_head(&record[0..262], &mut log, &mut lsn);
+    let r = logs::sigatuda_snapshot_head(&record[0..262], &mut log, &mut lsn);
     if !same_id(load_id(record, 264), log) {
         return false;
     }
@@ -91,7 +91,7 @@ fn head(fd: i32) -> bool {
     replied(record, 262, r)
 }
 
-// Whether the next record, of a call on volumes, is answered as it was; no where there is no such call.
+// Whether the next record, of a call on logs, is answered as it was; no where there is no such call.
 pub fn same(call: u32, fd: i32) -> bool {
     match call {
         27 => changes(fd),
