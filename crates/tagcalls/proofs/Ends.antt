@@ -10,7 +10,7 @@ use lib.Dec.{leb}
 use lib.ListN.{length}
 use borrow.Author.Tests.{le-leb, lt-leb, eq-eqb}
 use Rattle.octets.specs.Bytes.{AreBytes}
-use Rattle.core.specs.Answers.{Answer, refused, done, code, ask, _>>_}
+use Rattle.core.specs.Answers.{Answer, refused, done, ask, _>>_}
 use Rattle.core.specs.Orders.{bytes}
 use Rattle.rules.specs.Lists.{isSome}
 use Rattle.rules.specs.Records.{Id, Name, Tag, tagKey}
@@ -28,8 +28,7 @@ use Rattle.layout.proofs.PlaceLaws.{all-bytes}
 use Rattle.rows.specs.Lookups.{nth, atSpot}
 use Rattle.rows.proofs.Rows.{formed-rules}
 use Rattle.rows.proofs.Tables.{tags}
-use Rattle.tagcalls.specs.declared.TaggedAnswer.{TaggedAnswer}
-use Rattle.tagcalls.specs.Says.{taggedAnswer, earlier}
+use Rattle.tagcalls.specs.Says.{taggedAnswer}
 
 -- ---- arguments
 
@@ -73,7 +72,7 @@ module _ (t : List ℕ) (name : Name) (o : Spot) (i : ℕ) (says : atSpot o (tag
 
 module _ {A : Type 0} (t : List ℕ) (name : Name) (rest : Answer A) where
   -- what every call on tags asks first
-  abbrev pub asking : Answer A
+  abbrev asking : Answer A
   asking = ask (tagsFormed (tagsIn t)) 20 >> (ask (nameLength name) 1 >> rest)
 
   module _ (ok : tagsOk t ≡ true) where
@@ -138,27 +137,15 @@ module _ (t : List ℕ) (name : Name) (vid : Id) (ok : tagsOk t ≡ true) where
     unfolding tagReplace
     replace-is f = past-1 t name storing ok n ∙ ap (λ (b : Bool). ask b 19 >> done (tagged (tagsIn t) name, stored)) f
 
--- ---- what a call that may change the table answers and leaves: bytes as found on a refusal, else the answer's table laid over them
+-- ---- what a call that may change the table answers and leaves, by how the rule's answer is told and the table that it holds
 
-module _ (t : List ℕ) (a : Answer (Table Tag)) where
-  pub delete-refused : (n : ℕ) → a ≡ refused n → (n ≡ code a) × (t ≡ after tagBytes (λ w. w) t a)
+module _ {A B : Type 0} (tell : Answer A → B) (table : A → Table Tag) (t : List ℕ) (a : Answer A) where
+  -- a refusal leaves the bytes as found
+  pub unchanged : (n : ℕ) (x : B) → a ≡ refused n → x ≡ tell (refused n) → (x ≡ tell a) × (t ≡ after tagBytes table t a)
   unfolding after
-  delete-refused n e = (ap code (sym e), ap (after tagBytes (λ w. w) t) (sym e))
+  unchanged n x e told = (told ∙ ap tell (sym e), ap (after tagBytes table t) (sym e))
 
-  pub delete-done : (w : Table Tag) (u : List ℕ) → a ≡ done w → u ≡ laidOver tagBytes w t → (0 ≡ code a) × (u ≡ after tagBytes (λ w. w) t a)
+  -- else the answer's table is laid over them
+  pub changed : (w : A) (x : B) (u : List ℕ) → a ≡ done w → x ≡ tell (done w) → u ≡ laidOver tagBytes (table w) t → (x ≡ tell a) × (u ≡ after tagBytes table t a)
   unfolding after
-  delete-done w u e h = (ap code (sym e), h ∙ ap (after tagBytes (λ w. w) t) (sym e))
-
-module _ (t : List ℕ) (a : Answer (Option Id × Table Tag)) where
-  pub replace-refused : (n : ℕ) → a ≡ refused n → (taggedAnswer (refused n) ≡ taggedAnswer (earlier a)) × (t ≡ after tagBytes (λ p. p .1) t a)
-  unfolding after
-  replace-refused n e = (ap (λ (x : Answer (Option Id × Table Tag)). taggedAnswer (earlier x)) (sym e), ap (after tagBytes (λ p. p .1) t) (sym e))
-
-  pub replace-done : (o : Option Id) (w : Table Tag) (u : List ℕ) → a ≡ done (o, w) → u ≡ laidOver tagBytes w t
-      → (taggedAnswer (done o) ≡ taggedAnswer (earlier a)) × (u ≡ after tagBytes (λ p. p .1) t a)
-  unfolding after
-  replace-done o w u e h = (ap (λ (x : Answer (Option Id × Table Tag)). taggedAnswer (earlier x)) (sym e), h ∙ ap (after tagBytes (λ p. p .1) t) (sym e))
-
--- the answer as the code holds it, beside what it leaves
-pub told : {B : Type 0} {x y z : TaggedAnswer} → x ≡ y → (y ≡ z) × B → (x ≡ z) × B
-told e p = (e ∙ p .0, p .1)
+  changed w x u e told h = (told ∙ ap tell (sym e), h ∙ ap (after tagBytes table t) (sym e))
