@@ -87,13 +87,13 @@ abbrev pub Early : {A : Type 0} → Answer A → Type 0
 Early (refused n) = (0 < n) × (n < 4)
 Early (done a) = Unit {0}
 
-is-early : (n : ℕ) → 0 < n → n < 4 → early n ≡ true
+pub is-early : (n : ℕ) → 0 < n → n < 4 → early n ≡ true
 is-early n l h = rw (ne-eqb n 0 (λ e. omega arith), ne-eqb n 22 (λ e. omega arith))
 
-none-early : (n : ℕ) → n ≡ 0 → early n ≡ false
+pub none-early : (n : ℕ) → n ≡ 0 → early n ≡ false
 none-early n e = rw e
 
-last-early : (n : ℕ) → n ≡ 22 → early n ≡ false
+pub last-early : (n : ℕ) → n ≡ 22 → early n ≡ false
 last-early n e = rw e
 
 module _ (found : ℕ) (was : List ℕ) (a : SetAnswer) where

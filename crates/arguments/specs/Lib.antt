@@ -1,5 +1,4 @@
 pub mod Args
 pub mod Replies
-pub mod Segments
 pub mod Sets
 pub mod Snapshots

@@ -1,6 +1,5 @@
 // What stands between the exported C functions and the calls by value: arguments in bytes become values, and answers become a reply and what is lent for them.
 pub mod replies;
-pub mod segments;
 pub mod sets;
 pub mod snapshots;
 

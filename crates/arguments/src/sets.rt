@@ -39,7 +39,7 @@ pub fn set_arg(b: &[u8]) -> PageSet
 }
 
 // Whether a number comes before what is lent is looked at: 1, 2 and 3 do, 22 does not.
-fn is_early(code: u32) -> bool
+pub fn is_early(code: u32) -> bool
     ensures { λ r. ⌜ r ≡ early code ⌝ }
 {
     if code == 0 {

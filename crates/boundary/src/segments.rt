@@ -1,12 +1,14 @@
 // Segments and their frames, in bytes.
 use arguments::Reply;
-use arguments::segments::put_range;
-use arguments::segments::segment_arg;
 use core::pageidx::PageIdx;
 use frames::frame_for;
+use ranges::join;
+use segmentargs::put_range;
+use segmentargs::range_arg;
+use segmentargs::segment_arg;
 ghost use mathlib.Core.Path.{_≡_};
 ghost use Rattle.frames.specs.Rules.{frameRule};
-ghost use Rattle.arguments.specs.Segments.{segmentArg, rangeLeft};
+ghost use Rattle.segmentargs.specs.Segments.{segmentArg, rangeArg, rangeLeft, joinLeft};
 
 // The frame of a page, or nothing: 1, 3.
 #[no_mangle]
@@ -14,4 +16,12 @@ pub extern "C" fn sigatuda_frame_of_page(segment: &[u8], page: u32, out: &mut [u
     ensures { λ r. ⌜ (r, now (out .exit)) ≡ rangeLeft (now (out .entry)) (frameRule (segmentArg (now (segment .entry))) page) ⌝ }
 {
     put_range(frame_for(segment_arg(segment), PageIdx(page)), out)
+}
+
+// Two ranges joined, or nothing where they do not touch: 2, 3, 22.
+#[no_mangle]
+pub extern "C" fn sigatuda_join(a: &[u8], b: &[u8], out: &mut [u8]) -> Reply
+    ensures { λ r. ⌜ (r, now (out .exit)) ≡ joinLeft (now (out .entry)) (rangeArg (now (a .entry))) (rangeArg (now (b .entry))) ⌝ }
+{
+    put_range(join(range_arg(a), range_arg(b)), out)
 }

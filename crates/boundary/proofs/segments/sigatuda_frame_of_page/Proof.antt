@@ -2,8 +2,8 @@
 use mathlib.Core.Path.{ap, _∙_}
 use Rattle.commit.specs.declared.SegmentIdx.{SegmentIdx}
 use Rattle.frames.specs.Rules.{frameRule}
-use Rattle.arguments.specs.Segments.{rangeLeft}
-use Rattle.arguments.proofs.SegmentLaws.{left-range, tells-normal, frame-early}
+use Rattle.segmentargs.specs.Segments.{rangeLeft}
+use Rattle.segmentargs.proofs.SegmentLaws.{left-range, tells-normal, frame-early}
 use borrow.Author.Needs.{needs}
 use Rattle.boundary.proofs.segments.sigatuda_frame_of_page.Statement.{statement}
 use Rattle.boundary.proofs.segments.sigatuda_frame_of_page.Tie as tie

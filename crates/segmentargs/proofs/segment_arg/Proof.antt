@@ -4,12 +4,12 @@ use borrow.Author.Tests.{not-true, not-false}
 use Rattle.rules.specs.Forms.{segmentForm}
 use Rattle.layout.specs.Values.{segmentBytes}
 use Rattle.segmentbytes.specs.Laid.{segmentLaid}
-use Rattle.arguments.specs.Segments.{notASegment}
+use Rattle.segmentargs.specs.Segments.{notASegment}
 use Rattle.arguments.proofs.ArgLaws.{arg-length, arg-bad, arg-good}
-use Rattle.arguments.proofs.SegmentLaws.{segment-size}
+use Rattle.segmentargs.proofs.SegmentLaws.{segment-size}
 use borrow.Author.Needs.{needs}
-use Rattle.arguments.proofs.segments.segment_arg.Statement.{statement}
-use Rattle.arguments.proofs.segments.segment_arg.Tie as tie
+use Rattle.segmentargs.proofs.segment_arg.Statement.{statement}
+use Rattle.segmentargs.proofs.segment_arg.Tie as tie
 
 not-a-segment-requires : tie.Need-not-a-segment-requires
 not-a-segment-requires c κs = search needs

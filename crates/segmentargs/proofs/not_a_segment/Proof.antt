@@ -4,10 +4,10 @@ use mathlib.Core.List.{List}
 use lib.ListN.{replicate}
 use Rattle.pageset.specs.declared.PageSet.{PageSet}
 use Rattle.commit.specs.declared.Frame.{Frame}
-use Rattle.arguments.specs.Segments.{notASegment}
+use Rattle.segmentargs.specs.Segments.{notASegment}
 use borrow.Author.Needs.{needs}
-use Rattle.arguments.proofs.segments.not_a_segment.Statement.{statement}
-use Rattle.arguments.proofs.segments.not_a_segment.Tie as tie
+use Rattle.segmentargs.proofs.not_a_segment.Statement.{statement}
+use Rattle.segmentargs.proofs.not_a_segment.Tie as tie
 
 not-a-set-requires : tie.Need-not-a-set-requires
 not-a-set-requires c κs = search needs
