@@ -1,4 +1,4 @@
-// Calls 22 to 26: frames of a segment, 594 bytes, and ranges of one, 417 bytes each. The lists of frames, their bytes and joins are skipped.
+// Calls 22 to 26: frames of a segment, 594 bytes, and ranges of one, 417 bytes each. The lists of frames and their bytes are skipped.
 use crate::record::filled;
 use crate::record::replied;
 use boundary::segments;
@@ -21,6 +21,21 @@ fn frame(fd: i32) -> bool {
     replied(record, 598, r)
 }
 
+// Call 26: two ranges joined.
+fn join(fd: i32) -> bool {
+    let mut room = [0u8; 1253];
+    if !filled(fd, &mut room) {
+        return false;
+    }
+    let record: &[u8] = &room;
+    let mut out = [0u8; 417];
+    let r = segments::sigatuda_join(&record[0..417], &record[417..834], &mut out);
+    if !octets::same(record, 836, &out, 0, 417) {
+        return false;
+    }
+    replied(record, 834, r)
+}
+
 // Skips the n bytes of a record; call 22 has the most. No where the file ends first.
 fn skip(fd: i32, n: usize) -> bool
     requires { ⌜ n ≤ 7272 ⌝ }
@@ -36,6 +51,6 @@ pub fn same(call: u32, fd: i32) -> bool {
         23 => skip(fd, 2268),
         24 => frame(fd),
         25 => skip(fd, 624),
-        _ => skip(fd, 1253),
+        _ => join(fd),
     }
 }

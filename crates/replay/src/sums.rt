@@ -40,8 +40,12 @@ pub fn counted(s: Sums, call: u32, same: bool) -> Sums {
         sums.segments = tally::same(sums.segments, got, 1);
         return sums;
     }
-    if call < 27 {
+    if call < 26 {
         sums.skipped = num::wrapping_add_u64(sums.skipped, 1);
+        return sums;
+    }
+    if call == 26 {
+        sums.segments = tally::same(sums.segments, got, 1);
         return sums;
     }
     sums.logs = tally::same(sums.logs, got, 1);
@@ -52,9 +56,9 @@ pub fn counted(s: Sums, call: u32, same: bool) -> Sums {
 pub fn report(s: Sums) {
     tally::report(b"LSNs, pages and counts", s.numbers);
     tally::report(b"page sets", s.sets);
-    tally::report(b"frames of pages", s.segments);
+    tally::report(b"frames of pages and joins", s.segments);
     tally::report(b"changes and snapshots", s.logs);
-    io::write_all(STDOUT_FILENO, b"frame lists, bytes of frames and joins: ");
+    io::write_all(STDOUT_FILENO, b"frame lists and bytes of frames: ");
     io::print_decimal(STDOUT_FILENO, s.skipped);
     io::write_all(STDOUT_FILENO, b" skipped\n");
 }
