@@ -94,7 +94,7 @@ module _ (t u : List ℕ) where
     no-commits e = lent-no (volumesOk t && commitsOk u) a (ap (λ (b : Bool). volumesOk t && b) e ∙ and-false (volumesOk t))
 
   module _ (vid : Id) (ok : volumesOk t ≡ true) (oku : commitsOk u ≡ true) where
-    formed : (volumesFormed (volumesIn t) && commitsFormed (commitsIn u)) ≡ true
+    pub formed : (volumesFormed (volumesIn t) && commitsFormed (commitsIn u)) ≡ true
     formed = and-both (formed-rules volumes t ok) (formed-rules commits u oku)
 
     seen : Option Volume → Answer Snapshot
