@@ -1,10 +1,10 @@
 -- The latest check. Of one range: by which log it names. Of a path: all of its ranges are latest, and one is remote exactly if there is a sync; the loops go by what is left of the
 -- path. Of the call: each of its tests takes the rule's test away, in the rule's order.
-use Prim.Native.Nat.{ℕ, _+_, _≤_, _<_, zero, suc}
+use Prim.Native.Nat.{ℕ, _+_, _≤_, _<_}
 use mathlib.Core.Path.{_≡_, refl, sym, ap, ap₂, _∙_}
 use mathlib.Core.List.{List, [], _∷_, map}
 use mathlib.Core.Option.{Option, none, some, Option·map}
-use mathlib.Core.Bool.{Bool, true, false, cond, not, _&&_, _||_}
+use mathlib.Core.Bool.{Bool, true, false, not, _&&_, _||_}
 use native.Mathlib.Omega.{arith}
 use native.Mathlib.Numerals.{add-one}
 use borrow.Author.Tests.{leb-true, le-leb}
@@ -13,7 +13,7 @@ use lib.ListN.{length, take, drop, getD, length-take, length-map, drop-of-length
 use lib.Seq.{getD-take}
 use Rattle.core.specs.Answers.{Answer, refused, done, ask, need, _>>_, _>>=_}
 use Rattle.rules.specs.Lists.{all, any, isSome, isNone}
-use Rattle.rules.specs.Records.{Id, Commit, Volume, Range, Snapshot}
+use Rattle.rules.specs.Records.{Id, Commit, Volume, Range}
 use Rattle.rules.specs.Tables.{Table, sameId, getVolume, latest, latestLsn, volumesFormed, commitsFormed}
 use Rattle.rules.specs.Arguments.{snapshotLsns, snapshotOrder, snapshotForm}
 use Rattle.rules.specs.Snapshots.{remoteOf, isAt, rangeLatest, isRemote, sameAnswer, pathLatest, isLatest, latestCheck}
@@ -150,6 +150,17 @@ module _ (cs : Table Commit) (v : Volume) where
 pub form-len : (s : CodeSnapshot) → inForm s ≡ true → s .len ≤ 8
 unfolding inForm
 form-len s e = leb-true (s .len) 8 (and-fst (leb (s .len) 8) (all isZeroRange (drop (s .len) (s .path))) e)
+
+-- where the tables are formed and the snapshot is in form, the call is the rule on what the snapshot says
+pub checked-rule : (vs : Table Volume) (cs : Table Commit) (vid : Id) (s : CodeSnapshot) → (volumesFormed vs && commitsFormed cs) ≡ true → inForm s ≡ true
+    → checked vs cs vid s ≡ latestCheck vs cs vid (snapshotSays s)
+unfolding checked latestCheck
+checked-rule vs cs vid s f d = rw (f, d) (twice (snapshotLsns (snapshotSays s)) (snapshotOrder (snapshotSays s)) _)
+  where
+    twice : {A : Type 0} (a b : Bool) (k : Answer A) → ask a 1 >> (ask b 2 >> (ask a 1 >> (ask b 2 >> k))) ≡ ask a 1 >> (ask b 2 >> k)
+    twice false b k = refl
+    twice true false k = refl
+    twice true true k = refl
 
 module _ (t u : List ℕ) (vid : Id) (s : CodeSnapshot) (ok : volumesOk t ≡ true) (oku : commitsOk u ≡ true) where
   past-20 : lent (volumesOk t && commitsOk u) (checked (volumesIn t) (commitsIn u) vid s) ≡ checked (volumesIn t) (commitsIn u) vid s

@@ -1,5 +1,5 @@
 -- An empty path by itself; else all ranges, and then whether one is remote.
-use mathlib.Core.Path.{_≡_, refl, sym, ap, _∙_}
+use mathlib.Core.Path.{sym, _∙_}
 use borrow.Author.Tests.{not-true, not-false}
 use Rattle.layout.specs.Tables.{commitsIn}
 use Rattle.volume.specs.Volumes.{maybeLsnSays, volumeSays}

@@ -1,5 +1,5 @@
 -- By the log that the range names.
-use mathlib.Core.Path.{_≡_, sym, ap, _∙_}
+use mathlib.Core.Path.{sym, _∙_}
 use Rattle.commitbytes.proofs.CommitLaws.{same-id}
 use mathlib.Core.Option.{none}
 use Rattle.volume.specs.Volumes.{volumeSays}

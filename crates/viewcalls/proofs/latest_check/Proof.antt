@@ -1,5 +1,5 @@
 -- 20 where a table is not formed; 1, 2 and 3 of the snapshot; 4 where the volume is not found; else whether it is the latest of the one that is.
-use mathlib.Core.Path.{_≡_, refl, sym, ap, _∙_}
+use mathlib.Core.Path.{sym, _∙_}
 use mathlib.Core.Bool.{true, false}
 use borrow.Author.Tests.{not-true, not-false}
 use Rattle.table.proofs.Ends.{at-in}

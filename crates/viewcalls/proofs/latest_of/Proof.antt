@@ -1,5 +1,5 @@
 -- The LSN of the commit that stands at the place of the latest.
-use mathlib.Core.Path.{_≡_, sym, ap, _∙_}
+use mathlib.Core.Path.{ap, _∙_}
 use mathlib.Core.Option.{some, Option·map}
 use Rattle.rules.specs.Records.{Commit}
 use Rattle.commits.proofs.LookLaws.{place-at, place-missing}

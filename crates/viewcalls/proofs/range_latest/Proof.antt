@@ -1,5 +1,5 @@
 -- By the log that the range names.
-use mathlib.Core.Path.{_≡_, sym, ap, _∙_}
+use mathlib.Core.Path.{sym, ap, _∙_}
 use Prim.Native.Nat.{ℕ}
 use mathlib.Core.Option.{Option}
 use borrow.Author.Tests.{not-true, not-false}
