@@ -1,7 +1,7 @@
 -- The ends of the calls: for each way out of the code, the rule's answer. A snapshot goes by what the lookups found: the local log's latest commit, and the commit at
 -- sync.remote; the call by whether its tables are formed and its volume is stored.
 use Prim.Native.Nat.{ℕ}
-use mathlib.Core.Path.{_≡_, refl, sym, ap, ap₂, _∙_}
+use mathlib.Core.Path.{_≡_, sym, ap, ap₂, _∙_}
 use mathlib.Core.List.{List, [], _∷_}
 use mathlib.Core.Option.{Option, none, some, Option·map}
 use mathlib.Core.Bool.{Bool, true, false, cond, _&&_, and-false}
@@ -94,7 +94,7 @@ module _ (t u : List ℕ) where
     no-commits e = lent-no (volumesOk t && commitsOk u) a (ap (λ (b : Bool). volumesOk t && b) e ∙ and-false (volumesOk t))
 
   module _ (vid : Id) (ok : volumesOk t ≡ true) (oku : commitsOk u ≡ true) where
-    formed : (volumesFormed (volumesIn t) && commitsFormed (commitsIn u)) ≡ true
+    pub formed : (volumesFormed (volumesIn t) && commitsFormed (commitsIn u)) ≡ true
     formed = and-both (formed-rules volumes t ok) (formed-rules commits u oku)
 
     seen : Option Volume → Answer Snapshot

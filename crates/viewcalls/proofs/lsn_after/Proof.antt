@@ -1,5 +1,5 @@
 -- A watermark that is below an LSN has a next.
-use mathlib.Core.Path.{_≡_, sym, ap, _∙_}
+use mathlib.Core.Path.{sym, ap, _∙_}
 use native.Mathlib.Omega.{arith}
 use borrow.Author.Tests.{ltb-true}
 use Rattle.rules.specs.Snapshots.{below, after}

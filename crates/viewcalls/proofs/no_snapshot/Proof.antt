@@ -1,5 +1,5 @@
 -- The empty snapshot under a number.
-use mathlib.Core.Path.{_≡_, sym, ap, _∙_}
+use mathlib.Core.Path.{ap}
 use Rattle.volume.specs.declared.snapshot.Snapshot.{Snapshot}
 use borrow.Author.Needs.{needs}
 use Rattle.viewcalls.proofs.no_snapshot.Statement.{statement}

@@ -1,5 +1,5 @@
 -- By whether there is a sync, and whether the commit at sync.remote is stored.
-use mathlib.Core.Path.{_≡_, sym, ap, _∙_}
+use mathlib.Core.Path.{sym, ap, _∙_}
 use Rattle.layout.specs.Tables.{commitsIn}
 use Rattle.volume.specs.Volumes.{maybeLsnSays, volumeSays}
 use Rattle.volume.specs.Snapshots.{laid}

@@ -1,5 +1,5 @@
 -- 20 where a table is not formed, 4 where the volume is not found; else the snapshot of the one that is.
-use mathlib.Core.Path.{_≡_, sym, ap, _∙_}
+use mathlib.Core.Path.{sym, ap, _∙_}
 use borrow.Author.Tests.{not-true, not-false}
 use Rattle.volume.specs.Snapshots.{laidAnswer}
 use Rattle.table.proofs.Ends.{at-in}

@@ -1,5 +1,5 @@
 -- By the local log's latest commit, whether the watermark is below it, and whether there is a sync.
-use mathlib.Core.Path.{_≡_, sym, ap, _∙_}
+use mathlib.Core.Path.{sym, ap, _∙_}
 use Prim.Native.Nat.{ℕ}
 use mathlib.Core.Option.{Option, none, some}
 use borrow.Author.Tests.{not-true, not-false}
