@@ -1,4 +1,6 @@
 // Segments and ranges of a segment in bytes as arguments, and ranges as answers.
+pub mod lists;
+
 use arguments::Reply;
 use arguments::sets::is_early;
 use arguments::sets::not_a_set;
