@@ -101,7 +101,7 @@ fn the_same_reply() {
         let body = text.split("pub struct Reply {").nth(1).expect("a struct Reply").split('}').next().unwrap().to_string();
         (text.contains("#[repr(C)]"), divided(&body))
     };
-    assert_eq!(fields(&boundary()), fields(include_str!("../src/raw.rs")));
+    assert_eq!(fields(include_str!("../../crates/arguments/src/lib.rt")), fields(include_str!("../src/raw.rs")));
 }
 
 #[test]

@@ -1,3 +1,4 @@
 pub mod Flags
 pub mod Formats
 pub mod Tables
+pub mod Parts

@@ -1,15 +1,19 @@
 // Segments and their frames, in bytes.
 use arguments::Reply;
 use core::pageidx::PageIdx;
+use frames::BytesAnswer;
 use frames::frame_for;
 use frames::frame_list;
+use frames::frame_place;
 use ranges::join;
 use segmentargs::lists::put_list;
 use segmentargs::put_range;
 use segmentargs::range_arg;
 use segmentargs::segment_arg;
 ghost use mathlib.Core.Path.{_≡_};
-ghost use Rattle.frames.specs.Rules.{listRule, frameRule};
+ghost use Rattle.frames.specs.Rules.{listRule, frameRule, bytesRule, partBytes};
+ghost use lib.ListN.{length};
+ghost use Rattle.boundary.specs.Parts.{partLeft};
 ghost use Rattle.segmentargs.specs.Lists.{listLeft};
 ghost use Rattle.segmentargs.specs.Segments.{segmentArg, rangeArg, rangeLeft, joinLeft};
 
@@ -27,6 +31,28 @@ pub extern "C" fn sigatuda_frame_of_page(segment: &[u8], page: u32, out: &mut [u
     ensures { λ r. ⌜ (r, now (out .exit)) ≡ rangeLeft (now (out .entry)) (frameRule (segmentArg (now (segment .entry))) page) ⌝ }
 {
     put_range(frame_for(segment_arg(segment), PageIdx(page)), out)
+}
+
+// The bytes of a page's frame as a part of the lent segment, or nothing: 1, 3, 23.
+#[no_mangle]
+pub extern "C" fn sigatuda_frame_bytes<'a>(
+    segment: &[u8],
+    page: u32,
+    lent: &'a [u8],
+    part: &mut &'a [u8],
+) -> Reply
+    ensures { λ r. ⌜ (r, now (now (part .exit))) ≡ partLeft (now (lent .entry)) (now (now (part .entry))) (partBytes (bytesRule (segmentArg (now (segment .entry))) page (length (now (lent .entry))))) ⌝ }
+{
+    let place = frame_place(segment_arg(segment), PageIdx(page), lent.len());
+    match place {
+        BytesAnswer::Refused(code) => Reply { code, found: 0 },
+        BytesAnswer::At(start, end) => {
+            let bytes = &lent[start..end];
+            *part = bytes;
+            Reply { code: 0, found: 1 }
+        }
+        BytesAnswer::Nothing => Reply { code: 0, found: 0 },
+    }
 }
 
 // Two ranges joined, or nothing where they do not touch: 2, 3, 22.
