@@ -1,23 +1,26 @@
 -- The ends of the calls: for each way out of the code, the rule's answer. A decision goes by the changes of the remote and then of the local log; 17 is never met, since
 -- changes end at a head that is past their base. A volume that was found and changed is stored in its own place, since its identifier stays.
-use Prim.Native.Nat.{ℕ, _+_}
+use Prim.Native.Nat.{ℕ, _+_, _-_, _^_, _<_}
 use mathlib.Core.Path.{_≡_, refl, sym, ap, ap₂, _∙_}
 use mathlib.Core.List.{List, _∷_}
 use mathlib.Core.Option.{Option, none, some, Option·map}
-use mathlib.Core.Bool.{Bool, true, false, _&&_}
+use mathlib.Core.Bool.{Bool, true, false, not, _&&_}
 use native.Mathlib.Omega.{arith}
-use lib.Dec.{ltb}
-use borrow.Author.Tests.{ltb-true, le-leb}
+use lib.Dec.{eqb, ltb}
+use lib.ListN.{length}
+use borrow.Author.Tests.{ltb-true, le-leb, eq-eqb, ne-eqb, eqb-true, eqb-false}
 use Rattle.core.specs.Answers.{Answer, refused, done, code, ask, need, _>>_, _>>=_}
-use Rattle.core.specs.Numbers.{counts}
+use Rattle.core.specs.Numbers.{counts, lastLsn}
+use Rattle.core.specs.Hashes.{isZero}
 use Rattle.core.specs.Orders.{bytes}
 use Rattle.octets.specs.Bytes.{AreBytes}
 use Rattle.rules.specs.Lists.{isNone, given}
-use Rattle.rules.specs.Records.{Id, Commit, SyncPoint, Volume, volumeKey}
-use Rattle.rules.specs.Forms.{idForm, lsnForm, syncForm, pendingForm, commitForm, volumeForm}
+use Rattle.rules.specs.Records.{Id, Commit, SyncPoint, Pending, Volume, volumeKey}
+use Rattle.rules.specs.Forms.{bytesForm, idForm, lsnForm, syncForm, pendingForm, commitForm, volumeForm}
 use Rattle.rules.specs.Tables.{Table, store, getVolume, latest, latestLsn, sameId, volumesFormed, commitsFormed}
-use Rattle.rules.specs.Snapshots.{watermarkOf, remoteOf}
+use Rattle.rules.specs.Snapshots.{watermarkOf, remoteOf, below}
 use Rattle.rules.specs.Sync.{changed, changes, movedVolume, notOlder, syncBy, sync}
+use Rattle.rules.specs.Push.{withPending, isBefore, prepare}
 use Rattle.rules.proofs.TableLaws.{cases, options, missing, option-same, and-fst, and-snd, and-both, all-at, first-some}
 use Rattle.rules.proofs.AnswerLaws.{done-same, refused-done}
 use Rattle.table.specs.Records.{spot}
@@ -28,6 +31,7 @@ use Rattle.layout.specs.Lent.{lent, after}
 use Rattle.layout.specs.Records.{volumeBytes}
 use Rattle.layout.specs.Tables.{volumesIn, volumesOk, commitsIn, commitsOk}
 use Rattle.layout.proofs.LentLaws.{lent-yes}
+use Rattle.layout.proofs.PlaceLaws.{all-bytes}
 use Rattle.rows.specs.Lookups.{nth, atSpot}
 use Rattle.rows.proofs.Rows.{formed-rules, formed-forms, laid-same}
 use Rattle.rows.proofs.Tables.{volumes, commits}
@@ -223,3 +227,87 @@ moved-says x y n w mark made =
 -- that volume is in form, where the LSN was decided on
 pub moved-ready : (x y : CodeVolume) (n : Lsn) (p : Pull) → volumeSays y ≡ movedVolume (volumeSays x) (n .0) → volumeForm (volumeSays x) ≡ true → p ≡ Pull.To n → pullForm p ≡ true → volumeForm (volumeSays y) ≡ true
 moved-ready x y n p says form same good = ap volumeForm says ∙ moved-form (volumeSays x) (n .0) form (sym (ap pullForm same) ∙ good)
+
+-- ---- prepare
+
+-- no LSN is before 0, and the one before n is n - 1
+pub not-next : (m n : ℕ) → n ≡ 0 → eqb (m + 1) n ≡ false
+not-next m n e = ne-eqb (m + 1) n (λ z. omega arith)
+
+pub next-is : (m n : ℕ) → (n ≡ 0 → ⊥) → eqb m (n - 1) ≡ eqb (m + 1) n
+next-is m n h =
+    cases (eqb m (n - 1)) (λ q. q ∙ sym (eq-eqb (m + 1) n (omega (arith, eqb-true m (n - 1) q)))) (λ q. q ∙ sym (ne-eqb (m + 1) n (λ z. eqb-false m (n - 1) q (omega arith))))
+
+-- prepare on the volume that was found
+abbrev prepare-found : Table Volume → Table Commit → Pending → Volume → Answer (Table Volume)
+prepare-found vs cs p v =
+    ask (isNone (v .pending)) 9
+    >> (ask (below (watermarkOf (v .sync)) (p .local)) 11
+    >> (ask (isBefore (latestLsn cs (v .remote)) (p .commit)) 12
+    >> (ask (not (isZero (p .hash))) 13 >> done (store volumeKey bytes (withPending v (some p)) vs))))
+
+-- prepare past 20
+abbrev prepare-rest : Table Volume → Table Commit → Pending → Bool → Option Volume → Answer (Table Volume)
+prepare-rest vs cs p lsns o = ask lsns 1 >> (need o 4 >>= (λ v. prepare-found vs cs p v))
+
+module _ (t u : List ℕ) (vid : Id) (p : Pending) (ok : volumesOk t ≡ true) (oku : commitsOk u ≡ true) where
+  prepare-is : lent (volumesOk t && commitsOk u) (prepare (volumesIn t) (commitsIn u) vid p)
+      ≡ prepare-rest (volumesIn t) (commitsIn u) p (counts (p .local) && counts (p .commit)) (getVolume (volumesIn t) vid)
+  unfolding prepare
+  prepare-is =
+      lent-yes (volumesOk t && commitsOk u) (prepare (volumesIn t) (commitsIn u) vid p) (and-both ok oku)
+      ∙ ap (λ (b : Bool). ask b 20 >> prepare-rest (volumesIn t) (commitsIn u) p (counts (p .local) && counts (p .commit)) (getVolume (volumesIn t) vid)) (formed t u vid ok oku)
+
+  -- 1
+  pub prepare-zero : (counts (p .local) && counts (p .commit)) ≡ false → lent (volumesOk t && commitsOk u) (prepare (volumesIn t) (commitsIn u) vid p) ≡ refused 1
+  prepare-zero e = prepare-is ∙ ap (λ (b : Bool). prepare-rest (volumesIn t) (commitsIn u) p b (getVolume (volumesIn t) vid)) e
+
+  module _ (lsns : (counts (p .local) && counts (p .commit)) ≡ true) where
+    -- 4
+    pub prepare-nowhere : getVolume (volumesIn t) vid ≡ none → lent (volumesOk t && commitsOk u) (prepare (volumesIn t) (commitsIn u) vid p) ≡ refused 4
+    prepare-nowhere e = prepare-is ∙ ap₂ (λ (b : Bool) (o : Option Volume). prepare-rest (volumesIn t) (commitsIn u) p b o) lsns e
+
+    module _ (v : Volume) (found : getVolume (volumesIn t) vid ≡ some v) where
+      prepare-at : lent (volumesOk t && commitsOk u) (prepare (volumesIn t) (commitsIn u) vid p) ≡ prepare-found (volumesIn t) (commitsIn u) p v
+      prepare-at = prepare-is ∙ ap₂ (λ (b : Bool) (o : Option Volume). prepare-rest (volumesIn t) (commitsIn u) p b o) lsns found
+
+      -- 9
+      pub prepare-pending : isNone (v .pending) ≡ false → lent (volumesOk t && commitsOk u) (prepare (volumesIn t) (commitsIn u) vid p) ≡ refused 9
+      prepare-pending e = prepare-at ∙ rw e
+
+      module _ (free : isNone (v .pending) ≡ true) where
+        -- 11
+        pub prepare-pushed : below (watermarkOf (v .sync)) (p .local) ≡ false → lent (volumesOk t && commitsOk u) (prepare (volumesIn t) (commitsIn u) vid p) ≡ refused 11
+        prepare-pushed e = prepare-at ∙ rw (free, e)
+
+        module _ (new : below (watermarkOf (v .sync)) (p .local) ≡ true) where
+          -- 12
+          pub prepare-apart : isBefore (latestLsn (commitsIn u) (v .remote)) (p .commit) ≡ false → lent (volumesOk t && commitsOk u) (prepare (volumesIn t) (commitsIn u) vid p) ≡ refused 12
+          prepare-apart e = prepare-at ∙ rw (free, new, e)
+
+          module _ (next : isBefore (latestLsn (commitsIn u) (v .remote)) (p .commit) ≡ true) where
+            -- 13
+            pub prepare-zero-hash : isZero (p .hash) ≡ true → lent (volumesOk t && commitsOk u) (prepare (volumesIn t) (commitsIn u) vid p) ≡ refused 13
+            prepare-zero-hash e = prepare-at ∙ rw (free, new, next, e)
+
+            pub prepare-done : isZero (p .hash) ≡ false
+                → lent (volumesOk t && commitsOk u) (prepare (volumesIn t) (commitsIn u) vid p) ≡ done (store volumeKey bytes (withPending v (some p)) (volumesIn t))
+            prepare-done e = prepare-at ∙ rw (free, new, next, e)
+
+-- ---- the pending commit that is stored
+
+lsn-good : (n : ℕ) → counts n ≡ true → n < 2 ^ 64 → lsnForm n ≡ true
+unfolding lsnForm lastLsn
+lsn-good n c h = and-both c (le-leb n (2 ^ 64 - 1) (omega arith))
+
+pub pending-good : (local commit : ℕ) (hash : List ℕ) → (counts local && counts commit) ≡ true → local < 2 ^ 64 → commit < 2 ^ 64 → length hash ≡ 32 → AreBytes hash
+    → pendingForm (record { local = local; commit = commit; hash = hash }) ≡ true
+unfolding pendingForm bytesForm
+pending-good local commit hash c a b l bs =
+    and-both (and-both (lsn-good local (and-fst (counts local) (counts commit) c) a) (lsn-good commit (and-snd (counts local) (counts commit) c) b)) (and-both (eq-eqb (length hash) 32 l) (all-bytes hash bs))
+
+-- with it the volume is in form still
+pub prepared-form : (v : Volume) (p : Pending) → volumeForm v ≡ true → pendingForm p ≡ true → volumeForm (withPending v (some p)) ≡ true
+unfolding volumeForm
+prepared-form v p f g =
+    and-both (and-fst (idForm (v .vid) && idForm (v .local) && idForm (v .remote) && given syncForm (v .sync)) (given pendingForm (v .pending)) f) g

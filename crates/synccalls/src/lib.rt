@@ -1,13 +1,16 @@
-// The call that moves a volume's sync point by what the logs hold: sync. It answers on every input, 20 first.
+// The calls that move a volume's sync point and its pending commit by what the logs hold: sync, and prepare of a push. Each answers on every input, 20 first.
 use commits::Place;
 use commits::commits_formed;
 use commits::lsn_at;
+use core::commit_hash;
+use core::commit_hash::CommitHash;
 use core::id::LogId;
 use core::id::VolumeId;
 use core::lsn::Lsn;
 use table::Spot;
 use volume::volume::ChangesAnswer;
 use volume::volume::MaybeLsn;
+use volume::volume::PendingCommit;
 use volume::volume::Sync;
 use volume::volume::SyncPoint;
 use volume::volume::Volume;
@@ -20,9 +23,12 @@ ghost use mathlib.Core.Path.{_≡_};
 ghost use mathlib.Core.Bool.{true, _&&_};
 ghost use mathlib.Core.Option.{some};
 ghost use Rattle.core.specs.Answers.{code};
+ghost use Rattle.core.specs.Numbers.{counts};
+ghost use Rattle.rules.specs.Lists.{isNone};
+ghost use Rattle.rules.specs.Push.{isBefore, prepare as prepareRule};
 ghost use Rattle.rules.specs.Forms.{lsnForm, volumeForm};
 ghost use Rattle.rules.specs.Tables.{latestLsn};
-ghost use Rattle.rules.specs.Snapshots.{watermarkOf, remoteOf};
+ghost use Rattle.rules.specs.Snapshots.{watermarkOf, remoteOf, below};
 ghost use Rattle.rules.specs.Sync.{notOlder, syncBy, sync as syncRule};
 ghost use Rattle.volume.specs.Volumes.{maybeLsnSays, syncSays, volumeSays};
 ghost use Rattle.layout.specs.Records.{volumeBytes};
@@ -134,4 +140,97 @@ pub fn sync(volumes: &mut [u8], commits: &[u8], vid: VolumeId) -> u32
             0
         }
     }
+}
+
+// ---- prepare
+
+// Whether neither LSN is 0.
+fn both_count(local: u64, commit: u64) -> bool
+    ensures { λ r. ⌜ r ≡ counts local && counts commit ⌝ }
+{
+    if local == 0 {
+        return false;
+    }
+    0 < commit
+}
+
+// Whether nothing is pending.
+fn none_pending(v: Volume) -> bool
+    ensures { λ r. ⌜ r ≡ isNone (volumeSays v .pending) ⌝ }
+{
+    let pending = v.pending;
+    match pending {
+        PendingCommit::Missing => true,
+        PendingCommit::At {
+            local: _,
+            commit: _,
+        } => false,
+    }
+}
+
+// Whether a watermark is missing or below an LSN.
+fn is_below(watermark: MaybeLsn, lsn: u64) -> bool
+    ensures { λ r. ⌜ r ≡ below (maybeLsnSays watermark) lsn ⌝ }
+{
+    match watermark {
+        MaybeLsn::Missing => true,
+        MaybeLsn::At(w) => w.0 < lsn,
+    }
+}
+
+// Whether an LSN is the one after a log's latest, and 1 where that is missing.
+fn is_next(latest: MaybeLsn, lsn: u64) -> bool
+    ensures { λ r. ⌜ r ≡ isBefore (maybeLsnSays latest) lsn ⌝ }
+{
+    let MaybeLsn::At(last) = latest else {
+        return lsn == 1;
+    };
+    if lsn == 0 {
+        return false;
+    }
+    last.0 == lsn - 1
+}
+
+// A volume's pending commit set, before its push: 20, 1, 4, 9, 11, 12, 13.
+pub fn prepare(
+    volumes: &mut [u8],
+    commits: &[u8],
+    vid: VolumeId,
+    local: Lsn,
+    commit: Lsn,
+    hash: CommitHash,
+) -> u32
+    ensures { λ r. ⌜ r ≡ code (lent (volumesOk (now (volumes .entry)) && commitsOk (now (commits .entry))) (prepareRule (volumesIn (now (volumes .entry))) (commitsIn (now (commits .entry))) vid (record { local = local .0; commit = commit .0; hash = hash }))) ⌝ }
+    ensures { λ _. ⌜ now (volumes .exit) ≡ after volumeBytes (λ t. t) (now (volumes .entry)) (lent (volumesOk (now (volumes .entry)) && commitsOk (now (commits .entry))) (prepareRule (volumesIn (now (volumes .entry))) (commitsIn (now (commits .entry))) vid (record { local = local .0; commit = commit .0; hash = hash }))) ⌝ }
+{
+    if !volumes_formed(volumes) {
+        return 20;
+    }
+    if !commits_formed(commits) {
+        return 20;
+    }
+    if !both_count(local.0, commit.0) {
+        return 1;
+    }
+    let Spot::At(i) = find_volume(volumes, vid) else {
+        return 4;
+    };
+    let v = volume_at(volumes, i);
+    let sync = v.sync;
+    let remote = v.remote;
+    if !none_pending(v) {
+        return 9;
+    }
+    if !is_below(watermark_of(sync), local.0) {
+        return 11;
+    }
+    if !is_next(latest_lsn(commits, remote), commit.0) {
+        return 12;
+    }
+    if commit_hash::is_zero(hash) {
+        return 13;
+    }
+    let pending = PendingCommit::At { local, commit };
+    store_volume(volumes, i, v.with_pending_commit(pending, hash));
+    0
 }
