@@ -1,5 +1,4 @@
 -- What is left of sync once its volume is known, as the code decides it.
-use Prim.Native.Nat.{ℕ}
 use mathlib.Core.Path.{_≡_}
 use mathlib.Core.Bool.{Bool, true}
 use Rattle.core.specs.Answers.{Answer, refused, done, _>>=_}

@@ -1,7 +1,6 @@
 -- The first LSN is tested, and then the second.
 use native.Mathlib.Omega.{arith}
 use borrow.Author.Tests.{lt-ltb, le-ltb}
-use borrow.Author.Needs.{needs}
 use Rattle.synccalls.proofs.both_count.Statement.{statement}
 use Rattle.synccalls.proofs.both_count.Tie as tie
 

@@ -1,5 +1,5 @@
 -- The watermark by its two cases.
-use mathlib.Core.Path.{_≡_, sym, ap, _∙_}
+use mathlib.Core.Path.{sym, ap}
 use Rattle.rules.specs.Snapshots.{below}
 use Rattle.volume.specs.Volumes.{maybeLsnSays}
 use Rattle.volume.specs.declared.volume.MaybeLsn.{MaybeLsn}

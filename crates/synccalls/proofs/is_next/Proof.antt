@@ -1,5 +1,5 @@
 -- The latest LSN by its two cases; none is before 0.
-use mathlib.Core.Path.{_≡_, sym, ap, _∙_}
+use mathlib.Core.Path.{sym, ap, _∙_}
 use Rattle.rules.specs.Push.{isBefore}
 use Rattle.volume.specs.Volumes.{maybeLsnSays}
 use Rattle.volume.specs.declared.volume.MaybeLsn.{MaybeLsn}

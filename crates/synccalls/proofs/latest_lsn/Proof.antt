@@ -1,5 +1,5 @@
 -- By whether the lookup found a commit.
-use mathlib.Core.Path.{_≡_, sym, ap, _∙_}
+use mathlib.Core.Path.{ap, _∙_}
 use Prim.Native.Nat.{ℕ}
 use mathlib.Core.Option.{Option, some, Option·map}
 use Rattle.rules.specs.Records.{Commit}

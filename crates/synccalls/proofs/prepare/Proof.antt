@@ -1,18 +1,18 @@
 -- Each refusal of the rule in its turn; else the volume with the pending commit, in its place.
 use mathlib.Core.Path.{_≡_, sym, ap, _∙_}
 use Prim.Native.Nat.{ℕ}
-use mathlib.Core.Option.{Option, some}
+use mathlib.Core.Option.{Option}
 use mathlib.Core.Bool.{true, _&&_}
 use lib.ListN.{getD}
 use mir.Val.{Fits}
 use mir.Syntax.{w8, w64}
 use borrow.Author.Tests.{not-true, not-false}
-use Rattle.core.specs.Answers.{Answer, done}
+use Rattle.core.specs.Answers.{done}
 use Rattle.core.specs.Numbers.{counts}
 use Rattle.core.specs.Orders.{bytes}
 use Rattle.rules.specs.Records.{Pending, Volume, volumeKey}
 use Rattle.rules.specs.Forms.{pendingForm, volumeForm}
-use Rattle.rules.specs.Tables.{Table, store}
+use Rattle.rules.specs.Tables.{store}
 use Rattle.rules.specs.Snapshots.{below}
 use Rattle.rules.specs.Push.{isBefore}
 use Rattle.table.proofs.Ends.{at-in}

@@ -1,5 +1,4 @@
 -- By the changes of the remote since sync.remote.
-use mathlib.Core.Path.{_≡_, sym, ap, _∙_}
 use Rattle.layout.specs.Tables.{commitsIn}
 use Rattle.volume.specs.Volumes.{volumeSays}
 use Rattle.synccalls.proofs.Ends.{remote-changes, remote-refused, remote-same, remote-moved, remote-end}

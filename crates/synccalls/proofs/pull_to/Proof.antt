@@ -1,5 +1,4 @@
 -- By the changes of the local log since the watermark.
-use mathlib.Core.Path.{_≡_, sym, ap, _∙_}
 use Rattle.layout.specs.Tables.{commitsIn}
 use Rattle.volume.specs.Volumes.{volumeSays}
 use Rattle.synccalls.proofs.Ends.{local-changes, local-refused, local-same, local-moved}

@@ -1,5 +1,5 @@
 -- The sync point by its two cases.
-use mathlib.Core.Path.{_≡_, sym, ap, _∙_}
+use mathlib.Core.Path.{sym, ap}
 use Rattle.rules.specs.Snapshots.{remoteOf}
 use Rattle.volume.specs.Volumes.{syncSays}
 use Rattle.volume.specs.declared.volume.Sync.{Sync}

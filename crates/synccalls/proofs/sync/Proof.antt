@@ -1,10 +1,10 @@
 -- 20 where a table is not formed, 4 where the volume is not found; else what was decided on it, and where that is a move, the moved volume in its place.
-use mathlib.Core.Path.{_≡_, sym, ap, _∙_}
+use mathlib.Core.Path.{sym, ap, _∙_}
 use borrow.Author.Tests.{not-true, not-false}
-use Rattle.core.specs.Answers.{Answer, done}
+use Rattle.core.specs.Answers.{done}
 use Rattle.core.specs.Orders.{bytes}
 use Rattle.rules.specs.Records.{Volume, volumeKey}
-use Rattle.rules.specs.Tables.{Table, store}
+use Rattle.rules.specs.Tables.{store}
 use Rattle.table.proofs.Ends.{at-in}
 use Rattle.layout.specs.Tables.{volumesIn}
 use Rattle.volume.specs.declared.volume.Volume.{Volume as CodeVolume}
