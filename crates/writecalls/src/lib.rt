@@ -1,0 +1,74 @@
+// Writing a commit, given as its 722 bytes: whether the three tables have room for all that it adds, and storing it.
+use commitbytes::fields;
+use commitbytes::lsns;
+use layout::CHECKPOINT;
+use layout::ENTRY;
+use pageset::PageSet;
+ghost use mathlib.Core.Path.{_≡_};
+ghost use mathlib.Core.Bool.{true};
+ghost use Rattle.core.specs.Orders.{logLsn, logPageLsn};
+ghost use Rattle.layout.specs.Records.{checkpointBytes, entryBytes, commitBytes};
+ghost use Rattle.layout.specs.Tables.{checkpointsIn, checkpointsOk, indexIn, indexOk, laidOver};
+ghost use Rattle.rules.specs.Records.{checkpointKey, entryKey};
+ghost use Rattle.rules.specs.Tables.{fits, storeAll};
+ghost use Rattle.rules.specs.Write.{pagesOf, checkpointsOf, entriesOf};
+ghost use Rattle.setbytes.specs.Laid.{setLaid};
+ghost use Rattle.writecalls.specs.Written.{IsCommit, commitIn};
+
+// The pages of a commit: none where its segment is missing.
+pub fn commit_pages(c: &[u8]) -> PageSet
+    requires { ⌜ IsCommit (now c) ⌝ }
+    ensures { λ r. ⌜ r ≡ setLaid (pagesOf (commitIn (now (c .entry)) .segment)) ⌝ }
+{
+    let segment = fields::commit_segment(c, 0);
+    segment.pages
+}
+
+// Whether the checkpoints have room for those of a commit.
+pub fn room_for_checkpoints(t: &[u8], c: &[u8]) -> bool
+    requires { ⌜ (checkpointsOk (now t) ≡ true) × IsCommit (now c) ⌝ }
+    ensures { λ r. ⌜ r ≡ fits (storeAll checkpointKey logLsn (checkpointsOf (commitIn (now (c .entry)))) (checkpointsIn (now (t .entry)))) ⌝ }
+{
+    let log = fields::commit_log(c, 0);
+    let n = lsns::lsns_number(c, 657);
+    let ns = lsns::lsns_read(c, 657);
+    let more = indexing::count_checkpoints(t, log, ns, n);
+    table::room_for(t, CHECKPOINT, more)
+}
+
+// Whether the index has room for the entries of a commit.
+pub fn room_for_entries(t: &[u8], c: &[u8]) -> bool
+    requires { ⌜ (indexOk (now t) ≡ true) × IsCommit (now c) ⌝ }
+    ensures { λ r. ⌜ r ≡ fits (storeAll entryKey logPageLsn (entriesOf (commitIn (now (c .entry)))) (indexIn (now (t .entry)))) ⌝ }
+{
+    let log = fields::commit_log(c, 0);
+    let lsn = fields::commit_lsn(c, 0);
+    let set = commit_pages(c);
+    let more = indexing::count_entries(t, log, lsn, set);
+    table::room_for(t, ENTRY, more)
+}
+
+// The checkpoints of a commit put in; there is room for them.
+pub fn put_checkpoints(t: &mut [u8], c: &[u8])
+    requires { ⌜ (checkpointsOk (now t) ≡ true) × IsCommit (now c) ⌝ }
+    requires { ⌜ fits (storeAll checkpointKey logLsn (checkpointsOf (commitIn (now c))) (checkpointsIn (now t))) ≡ true ⌝ }
+    ensures { λ _. ⌜ now (t .exit) ≡ laidOver checkpointBytes (storeAll checkpointKey logLsn (checkpointsOf (commitIn (now (c .entry)))) (checkpointsIn (now (t .entry)))) (now (t .entry)) ⌝ }
+{
+    let log = fields::commit_log(c, 0);
+    let n = lsns::lsns_number(c, 657);
+    let ns = lsns::lsns_read(c, 657);
+    indexing::put_checkpoints(t, log, ns, n);
+}
+
+// The entries of a commit put in; there is room for them.
+pub fn put_entries(t: &mut [u8], c: &[u8])
+    requires { ⌜ (indexOk (now t) ≡ true) × IsCommit (now c) ⌝ }
+    requires { ⌜ fits (storeAll entryKey logPageLsn (entriesOf (commitIn (now c))) (indexIn (now t))) ≡ true ⌝ }
+    ensures { λ _. ⌜ now (t .exit) ≡ laidOver entryBytes (storeAll entryKey logPageLsn (entriesOf (commitIn (now (c .entry)))) (indexIn (now (t .entry)))) (now (t .entry)) ⌝ }
+{
+    let log = fields::commit_log(c, 0);
+    let lsn = fields::commit_lsn(c, 0);
+    let set = commit_pages(c);
+    let fresh = indexing::count_entries(t, log, lsn, set);
+    indexing::put_entries(t, log, lsn, set, fresh);
+}
