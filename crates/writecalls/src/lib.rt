@@ -2,18 +2,20 @@
 use commitbytes::fields;
 use commitbytes::lsns;
 use layout::CHECKPOINT;
+use layout::COMMIT;
+use layout::COMMIT_KEY;
 use layout::ENTRY;
 use pageset::PageSet;
 ghost use mathlib.Core.Path.{_≡_};
 ghost use mathlib.Core.Bool.{true};
 ghost use Rattle.core.specs.Orders.{logLsn, logPageLsn};
 ghost use Rattle.layout.specs.Records.{checkpointBytes, entryBytes, commitBytes};
-ghost use Rattle.layout.specs.Tables.{checkpointsIn, checkpointsOk, indexIn, indexOk, laidOver};
+ghost use Rattle.layout.specs.Tables.{commitsOk, checkpointsIn, checkpointsOk, indexIn, indexOk, laidOver};
 ghost use Rattle.rules.specs.Records.{checkpointKey, entryKey};
 ghost use Rattle.rules.specs.Tables.{fits, storeAll};
-ghost use Rattle.rules.specs.Write.{pagesOf, checkpointsOf, entriesOf};
+ghost use Rattle.rules.specs.Write.{pagesOf, checkpointsOf, entriesOf, write, logsFit};
 ghost use Rattle.setbytes.specs.Laid.{setLaid};
-ghost use Rattle.writecalls.specs.Written.{IsCommit, commitIn};
+ghost use Rattle.writecalls.specs.Written.{IsCommit, commitIn, logsIn};
 
 // The pages of a commit: none where its segment is missing.
 pub fn commit_pages(c: &[u8]) -> PageSet
@@ -71,4 +73,33 @@ pub fn put_entries(t: &mut [u8], c: &[u8])
     let set = commit_pages(c);
     let fresh = indexing::count_entries(t, log, lsn, set);
     indexing::put_entries(t, log, lsn, set, fresh);
+}
+
+// Whether the three tables have room for all that a commit adds.
+pub fn write_room(commits: &[u8], checkpoints: &[u8], index: &[u8], c: &[u8]) -> bool
+    requires { ⌜ (commitsOk (now commits) ≡ true) × (checkpointsOk (now checkpoints) ≡ true) × (indexOk (now index) ≡ true) ⌝ }
+    requires { ⌜ IsCommit (now c) ⌝ }
+    ensures { λ r. ⌜ r ≡ logsFit (write (logsIn (now (commits .entry)) (now (checkpoints .entry)) (now (index .entry))) (commitIn (now (c .entry)))) ⌝ }
+{
+    if !table::room(commits, COMMIT, COMMIT_KEY, c) {
+        return false;
+    }
+    if !room_for_checkpoints(checkpoints, c) {
+        return false;
+    }
+    room_for_entries(index, c)
+}
+
+// A commit written to the three tables, which have room for all that it adds.
+pub fn write_stored(commits: &mut [u8], checkpoints: &mut [u8], index: &mut [u8], c: &[u8])
+    requires { ⌜ (commitsOk (now commits) ≡ true) × (checkpointsOk (now checkpoints) ≡ true) × (indexOk (now index) ≡ true) ⌝ }
+    requires { ⌜ IsCommit (now c) ⌝ }
+    requires { ⌜ logsFit (write (logsIn (now commits) (now checkpoints) (now index)) (commitIn (now c))) ≡ true ⌝ }
+    ensures { λ _. ⌜ now (commits .exit) ≡ laidOver commitBytes (write (logsIn (now (commits .entry)) (now (checkpoints .entry)) (now (index .entry))) (commitIn (now (c .entry))) .commits) (now (commits .entry)) ⌝ }
+    ensures { λ _. ⌜ now (checkpoints .exit) ≡ laidOver checkpointBytes (write (logsIn (now (commits .entry)) (now (checkpoints .entry)) (now (index .entry))) (commitIn (now (c .entry))) .checkpoints) (now (checkpoints .entry)) ⌝ }
+    ensures { λ _. ⌜ now (index .exit) ≡ laidOver entryBytes (write (logsIn (now (commits .entry)) (now (checkpoints .entry)) (now (index .entry))) (commitIn (now (c .entry))) .index) (now (index .entry)) ⌝ }
+{
+    table::put(commits, COMMIT, COMMIT_KEY, c);
+    put_checkpoints(checkpoints, c);
+    put_entries(index, c);
 }
