@@ -1,6 +1,11 @@
 // Writing a commit, given as its 722 bytes: whether the three tables have room for all that it adds, and storing it.
+use commitbytes::commit_form;
+use commitbytes::commit_lsns_ok;
 use commitbytes::fields;
 use commitbytes::lsns;
+use commits::commits_formed;
+use entries::checkpoints_formed;
+use entries::index_formed;
 use layout::CHECKPOINT;
 use layout::COMMIT;
 use layout::COMMIT_KEY;
@@ -8,14 +13,16 @@ use layout::ENTRY;
 use pageset::PageSet;
 ghost use mathlib.Core.Path.{_≡_};
 ghost use mathlib.Core.Bool.{true};
+ghost use Rattle.core.specs.Answers.{code};
 ghost use Rattle.core.specs.Orders.{logLsn, logPageLsn};
 ghost use Rattle.layout.specs.Records.{checkpointBytes, entryBytes, commitBytes};
 ghost use Rattle.layout.specs.Tables.{commitsOk, checkpointsIn, checkpointsOk, indexIn, indexOk, laidOver};
+ghost use Rattle.layout.specs.Lent.{lent};
 ghost use Rattle.rules.specs.Records.{checkpointKey, entryKey};
 ghost use Rattle.rules.specs.Tables.{fits, storeAll};
 ghost use Rattle.rules.specs.Write.{pagesOf, checkpointsOf, entriesOf, write, logsFit};
 ghost use Rattle.setbytes.specs.Laid.{setLaid};
-ghost use Rattle.writecalls.specs.Written.{IsCommit, commitIn, logsIn};
+ghost use Rattle.writecalls.specs.Written.{IsCommit, commitIn, logsIn, logsOk, writeIn};
 
 // The pages of a commit: none where its segment is missing.
 pub fn commit_pages(c: &[u8]) -> PageSet
@@ -102,4 +109,32 @@ pub fn write_stored(commits: &mut [u8], checkpoints: &mut [u8], index: &mut [u8]
     table::put(commits, COMMIT, COMMIT_KEY, c);
     put_checkpoints(checkpoints, c);
     put_entries(index, c);
+}
+
+// The number that writing a commit answers, with nothing stored: 20, 3 for another number of bytes, 1, 3, 19, or 0.
+pub fn write_plan(commits: &[u8], checkpoints: &[u8], index: &[u8], c: &[u8]) -> u32
+    ensures { λ r. ⌜ r ≡ code (lent (logsOk (now (commits .entry)) (now (checkpoints .entry)) (now (index .entry))) (writeIn (logsIn (now (commits .entry)) (now (checkpoints .entry)) (now (index .entry))) (now (c .entry)))) ⌝ }
+{
+    if !commits_formed(commits) {
+        return 20;
+    }
+    if !checkpoints_formed(checkpoints) {
+        return 20;
+    }
+    if !index_formed(index) {
+        return 20;
+    }
+    if c.len() != COMMIT {
+        return 3;
+    }
+    if !commit_lsns_ok(c, 0) {
+        return 1;
+    }
+    if !commit_form(c, 0) {
+        return 3;
+    }
+    if !write_room(commits, checkpoints, index, c) {
+        return 19;
+    }
+    0
 }
