@@ -18,10 +18,10 @@ same-length-3 : tie.Need-same-length-3
 same-length-3 c = search needs
 
 returns : tie.Need-returns
-returns c = unchanged ((c .before .before .before .before .before .before .before .before .before) .args .commits .now) ((c .before .before .before .before .before .before .before .before .before) .args .checkpoints .now) ((c .before .before .before .before .before .before .before .before .before) .args .index .now) (c .before .write-plan .result) _ (c .before .write-plan .ensures) (c .if1 .taken)
+returns c = unchanged (c .before .before .before .before .before .before .before .before .before .args .commits .now) (c .before .before .before .before .before .before .before .before .before .args .checkpoints .now) (c .before .before .before .before .before .before .before .before .before .args .index .now) (c .before .write-plan .result) _ (c .before .write-plan .ensures) (c .if1 .taken)
 
 write-stored-requires : tie.Need-write-stored-requires
-write-stored-requires c κs = ((passed ((c .before .before .before .before .before .before .before .before .before .before .before .before) .args .commits .now) ((c .before .before .before .before .before .before .before .before .before .before .before .before) .args .checkpoints .now) ((c .before .before .before .before .before .before .before .before .before .before .before .before) .args .index .now) ((c .before .before .before .before .before .before .before .before .before .before .before .before) .args .c .now) (sym (c .before .before .before .before .write-plan .ensures) ∙ c .before .before .before .if1 .left)) .forms, ((passed ((c .before .before .before .before .before .before .before .before .before .before .before .before) .args .commits .now) ((c .before .before .before .before .before .before .before .before .before .before .before .before) .args .checkpoints .now) ((c .before .before .before .before .before .before .before .before .before .before .before .before) .args .index .now) ((c .before .before .before .before .before .before .before .before .before .before .before .before) .args .c .now) (sym (c .before .before .before .before .write-plan .ensures) ∙ c .before .before .before .if1 .left)) .commit, (passed ((c .before .before .before .before .before .before .before .before .before .before .before .before) .args .commits .now) ((c .before .before .before .before .before .before .before .before .before .before .before .before) .args .checkpoints .now) ((c .before .before .before .before .before .before .before .before .before .before .before .before) .args .index .now) ((c .before .before .before .before .before .before .before .before .before .before .before .before) .args .c .now) (sym (c .before .before .before .before .write-plan .ensures) ∙ c .before .before .before .if1 .left)) .room))
+write-stored-requires c κs = ((passed (c .before .before .before .before .before .before .before .before .before .before .before .before .args .commits .now) (c .before .before .before .before .before .before .before .before .before .before .before .before .args .checkpoints .now) (c .before .before .before .before .before .before .before .before .before .before .before .before .args .index .now) (c .before .before .before .before .before .before .before .before .before .before .before .before .args .c .now) (sym (c .before .before .before .before .write-plan .ensures) ∙ c .before .before .before .if1 .left)) .forms, ((passed (c .before .before .before .before .before .before .before .before .before .before .before .before .args .commits .now) (c .before .before .before .before .before .before .before .before .before .before .before .before .args .checkpoints .now) (c .before .before .before .before .before .before .before .before .before .before .before .before .args .index .now) (c .before .before .before .before .before .before .before .before .before .before .before .before .args .c .now) (sym (c .before .before .before .before .write-plan .ensures) ∙ c .before .before .before .if1 .left)) .commit, (passed (c .before .before .before .before .before .before .before .before .before .before .before .before .args .commits .now) (c .before .before .before .before .before .before .before .before .before .before .before .before .args .checkpoints .now) (c .before .before .before .before .before .before .before .before .before .before .before .before .args .index .now) (c .before .before .before .before .before .before .before .before .before .before .before .before .args .c .now) (sym (c .before .before .before .before .write-plan .ensures) ∙ c .before .before .before .if1 .left)) .room))
 
 same-length-4 : tie.Need-same-length-4
 same-length-4 c = search needs
@@ -33,7 +33,7 @@ same-length-6 : tie.Need-same-length-6
 same-length-6 c = search needs
 
 returns-2 : tie.Need-returns-2
-returns-2 c = changed ((c .before .before .before .before .before .before .before .before .before .before .before .before .before .before .before .before .before .before .before) .args .commits .now) ((c .before .before .before .before .before .before .before .before .before .before .before .before .before .before .before .before .before .before .before) .args .checkpoints .now) ((c .before .before .before .before .before .before .before .before .before .before .before .before .before .before .before .before .before .before .before) .args .index .now) _ _ ((passed ((c .before .before .before .before .before .before .before .before .before .before .before .before .before .before .before .before .before .before .before) .args .commits .now) ((c .before .before .before .before .before .before .before .before .before .before .before .before .before .before .before .before .before .before .before) .args .checkpoints .now) ((c .before .before .before .before .before .before .before .before .before .before .before .before .before .before .before .before .before .before .before) .args .index .now) ((c .before .before .before .before .before .before .before .before .before .before .before .before .before .before .before .before .before .before .before) .args .c .now) (sym (c .before .before .before .before .before .before .before .before .before .before .before .write-plan .ensures) ∙ c .before .before .before .before .before .before .before .before .before .before .if1 .left)) .answers) _ _ _ (c .before .before .before .before .before .before .write-stored .ensures .0) (c .before .before .before .before .before .before .write-stored .ensures .1 .0) (c .before .before .before .before .before .before .write-stored .ensures .1 .1)
+returns-2 c = changed (c .before .before .before .before .before .before .before .before .before .before .before .before .before .before .before .before .before .before .before .args .commits .now) (c .before .before .before .before .before .before .before .before .before .before .before .before .before .before .before .before .before .before .before .args .checkpoints .now) (c .before .before .before .before .before .before .before .before .before .before .before .before .before .before .before .before .before .before .before .args .index .now) _ _ ((passed (c .before .before .before .before .before .before .before .before .before .before .before .before .before .before .before .before .before .before .before .args .commits .now) (c .before .before .before .before .before .before .before .before .before .before .before .before .before .before .before .before .before .before .before .args .checkpoints .now) (c .before .before .before .before .before .before .before .before .before .before .before .before .before .before .before .before .before .before .before .args .index .now) (c .before .before .before .before .before .before .before .before .before .before .before .before .before .before .before .before .before .before .before .args .c .now) (sym (c .before .before .before .before .before .before .before .before .before .before .before .write-plan .ensures) ∙ c .before .before .before .before .before .before .before .before .before .before .if1 .left)) .answers) _ _ _ (c .before .before .before .before .before .before .write-stored .ensures .0) (c .before .before .before .before .before .before .write-stored .ensures .1 .0) (c .before .before .before .before .before .before .write-stored .ensures .1 .1)
 
 pub write-commit-spec : {M : Type 1} → statement M
 write-commit-spec =
