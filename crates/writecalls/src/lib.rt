@@ -1,4 +1,4 @@
-// Writing a commit, given as its 722 bytes: whether the three tables have room for all that it adds, and storing it.
+// Writing a commit, given as its 722 bytes, to its three tables: `write_plan` decides and stores nothing, `write_stored` stores, `write_commit` is the call.
 use commitbytes::commit_form;
 use commitbytes::commit_lsns_ok;
 use commitbytes::fields;
@@ -17,10 +17,10 @@ ghost use Rattle.core.specs.Answers.{code};
 ghost use Rattle.core.specs.Orders.{logLsn, logPageLsn};
 ghost use Rattle.layout.specs.Records.{checkpointBytes, entryBytes, commitBytes};
 ghost use Rattle.layout.specs.Tables.{commitsOk, checkpointsIn, checkpointsOk, indexIn, indexOk, laidOver};
-ghost use Rattle.layout.specs.Lent.{lent};
+ghost use Rattle.layout.specs.Lent.{lent, after};
 ghost use Rattle.rules.specs.Records.{checkpointKey, entryKey};
 ghost use Rattle.rules.specs.Tables.{fits, storeAll};
-ghost use Rattle.rules.specs.Write.{pagesOf, checkpointsOf, entriesOf, write, logsFit};
+ghost use Rattle.rules.specs.Write.{pagesOf, checkpointsOf, entriesOf, Logs, write, logsFit};
 ghost use Rattle.setbytes.specs.Laid.{setLaid};
 ghost use Rattle.writecalls.specs.Written.{IsCommit, commitIn, logsIn, logsOk, writeIn};
 
@@ -136,5 +136,20 @@ pub fn write_plan(commits: &[u8], checkpoints: &[u8], index: &[u8], c: &[u8]) ->
     if !write_room(commits, checkpoints, index, c) {
         return 19;
     }
+    0
+}
+
+// A commit written, all or nothing: it replaces any at its log and LSN, and adds its checkpoints and an index entry for each of its pages: 20, 3 for another number of bytes, 1, 3, 19.
+pub fn write_commit(commits: &mut [u8], checkpoints: &mut [u8], index: &mut [u8], c: &[u8]) -> u32
+    ensures { λ r. ⌜ r ≡ code (lent (logsOk (now (commits .entry)) (now (checkpoints .entry)) (now (index .entry))) (writeIn (logsIn (now (commits .entry)) (now (checkpoints .entry)) (now (index .entry))) (now (c .entry)))) ⌝ }
+    ensures { λ _. ⌜ now (commits .exit) ≡ after commitBytes (λ (g : Logs). g .commits) (now (commits .entry)) (lent (logsOk (now (commits .entry)) (now (checkpoints .entry)) (now (index .entry))) (writeIn (logsIn (now (commits .entry)) (now (checkpoints .entry)) (now (index .entry))) (now (c .entry)))) ⌝ }
+    ensures { λ _. ⌜ now (checkpoints .exit) ≡ after checkpointBytes (λ (g : Logs). g .checkpoints) (now (checkpoints .entry)) (lent (logsOk (now (commits .entry)) (now (checkpoints .entry)) (now (index .entry))) (writeIn (logsIn (now (commits .entry)) (now (checkpoints .entry)) (now (index .entry))) (now (c .entry)))) ⌝ }
+    ensures { λ _. ⌜ now (index .exit) ≡ after entryBytes (λ (g : Logs). g .index) (now (index .entry)) (lent (logsOk (now (commits .entry)) (now (checkpoints .entry)) (now (index .entry))) (writeIn (logsIn (now (commits .entry)) (now (checkpoints .entry)) (now (index .entry))) (now (c .entry)))) ⌝ }
+{
+    let number = write_plan(commits, checkpoints, index, c);
+    if number != 0 {
+        return number;
+    }
+    write_stored(commits, checkpoints, index, c);
     0
 }

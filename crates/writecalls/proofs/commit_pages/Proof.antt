@@ -16,7 +16,7 @@ commit-segment-requires : tie.Need-commit-segment-requires
 commit-segment-requires c κs = search needs
 
 returns : tie.Need-returns
-returns c = ap (λ (s : SegmentIdx). s .pages) (c .before .commit-segment .ensures) ∙ segment-pages (commitIn (part 0 722 ((c .before .before .before) .args .c .now)) .segment) ∙ ap (λ (x : List ℕ). setLaid (pagesOf (commitIn x .segment))) (whole (((c .before .before .before)) .args .c .now) (((c .before .before .before)) .pre))
+returns c = ap (λ (s : SegmentIdx). s .pages) (c .before .commit-segment .ensures) ∙ segment-pages (commitIn (part 0 722 (c .before .before .before .args .c .now)) .segment) ∙ ap (λ (x : List ℕ). setLaid (pagesOf (commitIn x .segment))) (whole (c .before .before .before .args .c .now) (c .before .before .before .pre))
 
 pub commit-pages-spec : {M : Type 1} → statement M
 commit-pages-spec =

@@ -19,16 +19,16 @@ commit-pages-requires : tie.Need-commit-pages-requires
 commit-pages-requires c κs = search needs
 
 count-entries-requires : tie.Need-count-entries-requires
-count-entries-requires c κs = (formed-well index (((c .before .before .before .before .before .before)) .args .t .now) (((c .before .before .before .before .before .before)) .pre .0 .0), set-normal (((c .before .before .before .before .before .before)) .args .c .now) (((c .before .before .before .before .before .before)) .pre .0 .1) (c .before .commit-pages .result) (c .before .commit-pages .ensures))
+count-entries-requires c κs = (formed-well index (c .before .before .before .before .before .before .args .t .now) (c .before .before .before .before .before .before .pre .0 .0), set-normal (c .before .before .before .before .before .before .args .c .now) (c .before .before .before .before .before .before .pre .0 .1) (c .before .commit-pages .result) (c .before .commit-pages .ensures))
 
 put-entries-requires : tie.Need-put-entries-requires
-put-entries-requires c κs = (formed-well index (((c .before .before .before .before .before .before .before .before)) .args .t .now) (((c .before .before .before .before .before .before .before .before)) .pre .0 .0), (set-normal (((c .before .before .before .before .before .before .before .before)) .args .c .now) (((c .before .before .before .before .before .before .before .before)) .pre .0 .1) (c .before .before .before .commit-pages .result) (c .before .before .before .commit-pages .ensures), (c .before .count-entries .ensures, rows-fit index (((c .before .before .before .before .before .before .before .before)) .args .t .now) (((c .before .before .before .before .before .before .before .before)) .pre .0 .0) (entriesOf (commitIn (((c .before .before .before .before .before .before .before .before)) .args .c .now))) (entries-form (commitIn (((c .before .before .before .before .before .before .before .before)) .args .c .now)) (is-form (((c .before .before .before .before .before .before .before .before)) .args .c .now) (((c .before .before .before .before .before .before .before .before)) .pre .0 .1))) _ (entry-rows (((c .before .before .before .before .before .before .before .before)) .args .c .now) (((c .before .before .before .before .before .before .before .before)) .pre .0 .1) (c .before .before .before .commit-pages .result) (c .before .before .before .commit-pages .ensures) (c .before .before .before .before .before .commit-log .result) (c .before .before .before .before .before .commit-log .ensures) (c .before .before .before .before .commit-lsn .result .0) (c .before .before .before .before .commit-lsn .ensures)) ∙ ((c .before .before .before .before .before .before .before .before)) .pre .1)))
+put-entries-requires c κs = (formed-well index (c .before .before .before .before .before .before .before .before .args .t .now) (c .before .before .before .before .before .before .before .before .pre .0 .0), (set-normal (c .before .before .before .before .before .before .before .before .args .c .now) (c .before .before .before .before .before .before .before .before .pre .0 .1) (c .before .before .before .commit-pages .result) (c .before .before .before .commit-pages .ensures), (c .before .count-entries .ensures, rows-fit index (c .before .before .before .before .before .before .before .before .args .t .now) (c .before .before .before .before .before .before .before .before .pre .0 .0) (entriesOf (commitIn (c .before .before .before .before .before .before .before .before .args .c .now))) (entries-form (commitIn (c .before .before .before .before .before .before .before .before .args .c .now)) (is-form (c .before .before .before .before .before .before .before .before .args .c .now) (c .before .before .before .before .before .before .before .before .pre .0 .1))) _ (entry-rows (c .before .before .before .before .before .before .before .before .args .c .now) (c .before .before .before .before .before .before .before .before .pre .0 .1) (c .before .before .before .commit-pages .result) (c .before .before .before .commit-pages .ensures) (c .before .before .before .before .before .commit-log .result) (c .before .before .before .before .before .commit-log .ensures) (c .before .before .before .before .commit-lsn .result .0) (c .before .before .before .before .commit-lsn .ensures)) ∙ (c .before .before .before .before .before .before .before .before) .pre .1)))
 
 same-length : tie.Need-same-length
 same-length c = search needs
 
 returns : tie.Need-returns
-returns c = c .before .before .put-entries .ensures ∙ rows-laid index (((c .before .before .before .before .before .before .before .before .before .before .before)) .args .t .now) (((c .before .before .before .before .before .before .before .before .before .before .before)) .pre .0 .0) (entriesOf (commitIn (((c .before .before .before .before .before .before .before .before .before .before .before)) .args .c .now))) (entries-form (commitIn (((c .before .before .before .before .before .before .before .before .before .before .before)) .args .c .now)) (is-form (((c .before .before .before .before .before .before .before .before .before .before .before)) .args .c .now) (((c .before .before .before .before .before .before .before .before .before .before .before)) .pre .0 .1))) _ (entry-rows (((c .before .before .before .before .before .before .before .before .before .before .before)) .args .c .now) (((c .before .before .before .before .before .before .before .before .before .before .before)) .pre .0 .1) (c .before .before .before .before .before .before .commit-pages .result) (c .before .before .before .before .before .before .commit-pages .ensures) (c .before .before .before .before .before .before .before .before .commit-log .result) (c .before .before .before .before .before .before .before .before .commit-log .ensures) (c .before .before .before .before .before .before .before .commit-lsn .result .0) (c .before .before .before .before .before .before .before .commit-lsn .ensures))
+returns c = c .before .before .put-entries .ensures ∙ rows-laid index (c .before .before .before .before .before .before .before .before .before .before .before .args .t .now) (c .before .before .before .before .before .before .before .before .before .before .before .pre .0 .0) (entriesOf (commitIn (c .before .before .before .before .before .before .before .before .before .before .before .args .c .now))) (entries-form (commitIn (c .before .before .before .before .before .before .before .before .before .before .before .args .c .now)) (is-form (c .before .before .before .before .before .before .before .before .before .before .before .args .c .now) (c .before .before .before .before .before .before .before .before .before .before .before .pre .0 .1))) _ (entry-rows (c .before .before .before .before .before .before .before .before .before .before .before .args .c .now) (c .before .before .before .before .before .before .before .before .before .before .before .pre .0 .1) (c .before .before .before .before .before .before .commit-pages .result) (c .before .before .before .before .before .before .commit-pages .ensures) (c .before .before .before .before .before .before .before .before .commit-log .result) (c .before .before .before .before .before .before .before .before .commit-log .ensures) (c .before .before .before .before .before .before .before .commit-lsn .result .0) (c .before .before .before .before .before .before .before .commit-lsn .ensures))
 
 pub put-entries-spec : {M : Type 1} → statement M
 put-entries-spec =

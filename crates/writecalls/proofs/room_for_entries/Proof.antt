@@ -19,13 +19,13 @@ commit-pages-requires : tie.Need-commit-pages-requires
 commit-pages-requires c κs = search needs
 
 count-entries-requires : tie.Need-count-entries-requires
-count-entries-requires c κs = (formed-well index (((c .before .before .before .before .before)) .args .t .now) (((c .before .before .before .before .before)) .pre .0), set-normal (((c .before .before .before .before .before)) .args .c .now) (((c .before .before .before .before .before)) .pre .1) (c .commit-pages .result) (c .commit-pages .ensures))
+count-entries-requires c κs = (formed-well index (c .before .before .before .before .before .args .t .now) (c .before .before .before .before .before .pre .0), set-normal (c .before .before .before .before .before .args .c .now) (c .before .before .before .before .before .pre .1) (c .commit-pages .result) (c .commit-pages .ensures))
 
 room-for-requires : tie.Need-room-for-requires
-room-for-requires c κs = ready index (((c .before .before .before .before .before .before)) .args .t .now) (((c .before .before .before .before .before .before)) .pre .0)
+room-for-requires c κs = ready index (c .before .before .before .before .before .before .args .t .now) (c .before .before .before .before .before .before .pre .0)
 
 returns : tie.Need-returns
-returns c = rows-room index (((c .before .before .before .before .before .before .before)) .args .t .now) (((c .before .before .before .before .before .before .before)) .pre .0) (entriesOf (commitIn (((c .before .before .before .before .before .before .before)) .args .c .now))) (entries-form (commitIn (((c .before .before .before .before .before .before .before)) .args .c .now)) (is-form (((c .before .before .before .before .before .before .before)) .args .c .now) (((c .before .before .before .before .before .before .before)) .pre .1))) _ (entry-rows (((c .before .before .before .before .before .before .before)) .args .c .now) (((c .before .before .before .before .before .before .before)) .pre .1) (c .before .before .commit-pages .result) (c .before .before .commit-pages .ensures) (c .before .before .before .before .commit-log .result) (c .before .before .before .before .commit-log .ensures) (c .before .before .before .commit-lsn .result .0) (c .before .before .before .commit-lsn .ensures)) (c .room-for .result) (c .before .count-entries .result) (c .before .count-entries .ensures) (c .room-for .ensures)
+returns c = rows-room index (c .before .before .before .before .before .before .before .args .t .now) (c .before .before .before .before .before .before .before .pre .0) (entriesOf (commitIn (c .before .before .before .before .before .before .before .args .c .now))) (entries-form (commitIn (c .before .before .before .before .before .before .before .args .c .now)) (is-form (c .before .before .before .before .before .before .before .args .c .now) (c .before .before .before .before .before .before .before .pre .1))) _ (entry-rows (c .before .before .before .before .before .before .before .args .c .now) (c .before .before .before .before .before .before .before .pre .1) (c .before .before .commit-pages .result) (c .before .before .commit-pages .ensures) (c .before .before .before .before .commit-log .result) (c .before .before .before .before .commit-log .ensures) (c .before .before .before .commit-lsn .result .0) (c .before .before .before .commit-lsn .ensures)) (c .room-for .result) (c .before .count-entries .result) (c .before .count-entries .ensures) (c .room-for .ensures)
 
 pub room-for-entries-spec : {M : Type 1} → statement M
 room-for-entries-spec =
