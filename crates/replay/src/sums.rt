@@ -1,16 +1,13 @@
 // How many records were replayed and how many differed, by the kind of call.
-use libc::STDOUT_FILENO;
 use plainset::tally;
 use plainset::tally::Tally;
-use std::num;
 
-// A tally for each kind, and the records that are skipped: of calls that are not exported.
+// A tally for each kind.
 pub struct Sums {
     pub numbers: Tally,
     pub sets: Tally,
     pub segments: Tally,
     pub logs: Tally,
-    pub skipped: u64,
 }
 
 // No record yet.
@@ -20,7 +17,6 @@ pub fn none() -> Sums {
         sets: tally::none(),
         segments: tally::none(),
         logs: tally::none(),
-        skipped: 0,
     }
 }
 
@@ -36,15 +32,7 @@ pub fn counted(s: Sums, call: u32, same: bool) -> Sums {
         sums.sets = tally::same(sums.sets, got, 1);
         return sums;
     }
-    if call == 24 {
-        sums.segments = tally::same(sums.segments, got, 1);
-        return sums;
-    }
-    if call < 26 {
-        sums.skipped = num::wrapping_add_u64(sums.skipped, 1);
-        return sums;
-    }
-    if call == 26 {
+    if call < 27 {
         sums.segments = tally::same(sums.segments, got, 1);
         return sums;
     }
@@ -56,9 +44,6 @@ pub fn counted(s: Sums, call: u32, same: bool) -> Sums {
 pub fn report(s: Sums) {
     tally::report(b"LSNs, pages and counts", s.numbers);
     tally::report(b"page sets", s.sets);
-    tally::report(b"frames of pages and joins", s.segments);
+    tally::report(b"frames and joins", s.segments);
     tally::report(b"changes and snapshots", s.logs);
-    io::write_all(STDOUT_FILENO, b"frame lists and bytes of frames: ");
-    io::print_decimal(STDOUT_FILENO, s.skipped);
-    io::write_all(STDOUT_FILENO, b" skipped\n");
 }
