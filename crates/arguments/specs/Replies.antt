@@ -1,7 +1,8 @@
 -- What an exported call leaves: its reply, and what is lent for the answer. An answer is written where the number is 0 and there is one; else what was lent stays as found.
 use Prim.Native.Nat.{ℕ}
 use mathlib.Core.Option.{Option, none, some}
-use mathlib.Core.Bool.{Bool, true, false}
+use mathlib.Core.Bool.{Bool, true, false, cond}
+use lib.Dec.{eqb}
 use Rattle.core.specs.Answers.{Answer, refused, done}
 use Rattle.arguments.specs.declared.Reply.{Reply}
 
@@ -17,6 +18,10 @@ given = record { code = 0; found = 1 }
 abbrev pub bit : Bool → ℕ
 bit true = 1
 bit false = 0
+
+-- the number of a call that answers nothing else: done is 0
+abbrev pub numberedReply : ℕ → Reply
+numberedReply n = cond (eqb n 0) given (none-under n)
 
 -- yes or no under 0
 abbrev pub yesOrNo : Answer Bool → Reply

@@ -12,7 +12,7 @@ ghost use Rattle.core.specs.Answers.{done};
 ghost use Rattle.core.specs.Says.{lsnSays, maybeLsnSays, pageSays, maybePageSays};
 ghost use Rattle.volume.specs.Volumes.{changesSays};
 ghost use Rattle.pagecalls.specs.Says.{countSays, pageSays as endSays, yesSays};
-ghost use Rattle.arguments.specs.Replies.{value, valueOr, yesOrNo, bit as bitOf};
+ghost use Rattle.arguments.specs.Replies.{value, valueOr, yesOrNo, numberedReply, bit as bitOf};
 
 // An LSN.
 pub fn put_lsn(a: LsnAnswer, out: &mut u64) -> Reply
@@ -128,4 +128,14 @@ pub fn bit(b: bool) -> u32
     ensures { λ r. ⌜ r ≡ bitOf b ⌝ }
 {
     if b { 1 } else { 0 }
+}
+
+// The number of a call that answers nothing else.
+pub fn numbered(code: u32) -> Reply
+    ensures { λ r. ⌜ r ≡ numberedReply code ⌝ }
+{
+    if code == 0 {
+        return Reply { code: 0, found: 1 };
+    }
+    Reply { code, found: 0 }
 }
