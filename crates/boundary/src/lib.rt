@@ -5,4 +5,6 @@ pub mod logs;
 pub mod numbers;
 pub mod segments;
 pub mod sets;
+pub mod synccall;
 pub mod tables;
+pub mod writecall;
