@@ -7,4 +7,5 @@ pub mod segments;
 pub mod sets;
 pub mod synccall;
 pub mod tables;
+pub mod viewcall;
 pub mod writecall;
