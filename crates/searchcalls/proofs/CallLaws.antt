@@ -1,17 +1,17 @@
 -- The ends of the calls: each test that the code has passed takes the rule's test away, in the rule's order, so that at each return the rule's answer is what the code answers.
-use Prim.Native.Nat.{ℕ, _≤_, _<_}
+use Prim.Native.Nat.{ℕ, _≤_}
 use mathlib.Core.Path.{_≡_, sym, ap, _∙_}
 use mathlib.Core.List.{List, map}
-use mathlib.Core.Option.{Option, none, some, Option·map}
+use mathlib.Core.Option.{Option}
 use mathlib.Core.Bool.{Bool, true, false, _&&_, and-false}
 use native.Mathlib.Omega.{arith}
 use borrow.Author.Tests.{eq-eqb, ne-eqb, lt-ltb, le-ltb, le-leb}
 use lib.Dec.{eqb}
 use lib.ListN.{length, take}
-use Rattle.core.specs.Answers.{Answer, refused, done, ask, _>>_}
+use Rattle.core.specs.Answers.{Answer, refused, done}
 use Rattle.core.specs.Numbers.{counts}
-use Rattle.rules.specs.Records.{Id, Commit, Range, Snapshot}
-use Rattle.rules.specs.Tables.{commitsFormed, indexFormed, checkpointsFormed, checkpointAt}
+use Rattle.rules.specs.Records.{Id, Commit, Snapshot}
+use Rattle.rules.specs.Tables.{commitsFormed, indexFormed, checkpointAt}
 use Rattle.rules.specs.Arguments.{snapshotLsns, snapshotOrder, snapshotForm}
 use Rattle.rules.specs.Search.{searchPath, searchPage}
 use Rattle.rules.specs.Reads.{checkpointRead}
@@ -79,13 +79,20 @@ module _ (t u b : List ℕ) (p : ℕ) (out : List ℕ) where
                 let c : eqb (length out) (commitBytes .size) ≡ false = ap (eqb (length out)) (commits .wide) ∙ ne-eqb (length out) 722 h in
                 rw (past-20, a, real, o, f, c)
 
-            -- 21, the commit or nothing
-            pub searched : length out ≡ 722 → answer ≡ searchPath (commitsIn t) (indexIn u) p (snapshotIn b .path)
-            unfolding searchIn searchPage snapshotForm
-            searched h =
-                let c : eqb (length out) (commitBytes .size) ≡ true = ap (eqb (length out)) (commits .wide) ∙ eq-eqb (length out) 722 h in
-                let g : (commitsFormed (commitsIn t) && indexFormed (indexIn u)) ≡ true = and-both (formed-rules commits t ok) (formed-rules index u oku) in
-                rw (past-20, a, real, o, f, c, g, le-leb (length (snapshotIn b .path)) 8 (in-few b))
+            module _ (h : length out ≡ 722) where
+              -- the rule
+              pub passed : answer ≡ searchPage (commitsIn t) (indexIn u) (snapshotIn b) p
+              unfolding searchIn
+              passed =
+                  let c : eqb (length out) (commitBytes .size) ≡ true = ap (eqb (length out)) (commits .wide) ∙ eq-eqb (length out) 722 h in
+                  rw (past-20, a, real, o, f, c)
+
+              -- 21, the commit or nothing
+              pub searched : answer ≡ searchPath (commitsIn t) (indexIn u) p (snapshotIn b .path)
+              unfolding searchPage snapshotForm
+              searched =
+                  let g : (commitsFormed (commitsIn t) && indexFormed (indexIn u)) ≡ true = and-both (formed-rules commits t ok) (formed-rules index u oku) in
+                  passed ∙ rw (g, a, real, o, le-leb (length (snapshotIn b .path)) 8 (in-few b))
 
 -- ---- the snapshot by value that the bytes became
 

@@ -1,8 +1,8 @@
 -- The search over a path. In a range the first index entry of the page decides, and it is of the range's log, so its LSN alone says where its commit stands; without one, the ranges
 -- that are left decide. The loop's invariant is that the whole path answers what the ranges from i on answer.
-use Prim.Native.Nat.{ℕ, suc, _+_, _*_, _≤_, _<_}
+use Prim.Native.Nat.{ℕ, _+_, _*_, _≤_, _<_}
 use mathlib.Core.Path.{_≡_, refl, sym, ap, ap₂, _∙_, subst}
-use mathlib.Core.List.{List, [], _∷_, map}
+use mathlib.Core.List.{List, map}
 use mathlib.Core.Option.{Option, none, some}
 use mathlib.Core.Bool.{true}
 use native.Mathlib.Omega.{arith}
@@ -25,43 +25,38 @@ use Rattle.rows.proofs.Tables.{commits}
 use Rattle.volume.specs.Snapshots.{rangeSays}
 use Rattle.volume.specs.declared.snapshot.LogRange.{LogRange}
 use Rattle.lookups.specs.Found.{entryLsn}
-use Rattle.commits.specs.Places.{commitAt, PlaceOf}
+use Rattle.commits.specs.Places.{PlaceOf}
 use Rattle.commits.specs.declared.Place.{Place}
 use Rattle.commits.specs.declared.Place.the-variants as Place
 use Rattle.commits.proofs.LookLaws.{place-at, place-missing}
 use Rattle.arguments.specs.Replies.{given, none-under, valueOr}
-use Rattle.searchcalls.specs.Searches.{named, hitSays, Within, HitOf}
+use Rattle.searchcalls.specs.Searches.{entryCommit, hitSays, HitOf}
 use Rattle.searchcalls.specs.declared.Hit.{Hit}
 use Rattle.searchcalls.specs.declared.Hit.the-variants as Hit
 
 -- ---- the commit that an entry names
 
 module _ (t : List ℕ) (log : Id) (lsn : ℕ) (p : Place) (h : PlaceOf t (getCommit (commitsIn t) log lsn) p) where
-  pub stored : (i : ℕ) → p ≡ Place.At i → HitOf t (named (commitsIn t) log lsn) (Hit.At i)
+  pub stored : (i : ℕ) → p ≡ Place.At i → HitOf t (entryCommit (commitsIn t) log lsn) (Hit.At i)
   stored i e =
       let w = place-at t (getCommit (commitsIn t) log lsn) p h i e in
       record { says = ap (λ (o : Option Commit). need o 21 >>= (λ c. done (some c))) (w .0); inside = w .1 }
 
-  pub unstored : p ≡ Place.Missing → HitOf t (named (commitsIn t) log lsn) Hit.Unstored
+  pub unstored : p ≡ Place.Missing → HitOf t (entryCommit (commitsIn t) log lsn) Hit.Unstored
   unstored e = record { says = ap (λ (o : Option Commit). need o 21 >>= (λ c. done (some c))) (place-missing t (getCommit (commitsIn t) log lsn) p h e); inside = tt }
 
 -- ---- one range
 
 module _ (cs : Table Commit) (es : Table Entry) (r : Range) (p : ℕ) (later : Answer (Option Commit)) where
   -- it has an entry, whose commit decides
-  pub has-entry : (lsn : ℕ) → some lsn ≡ entryLsn (first (entryIn r p) (es .rows)) → named cs (r .log) lsn ≡ foundBy cs (first (entryIn r p) (es .rows)) later
+  pub has-entry : (lsn : ℕ) → some lsn ≡ entryLsn (first (entryIn r p) (es .rows)) → entryCommit cs (r .log) lsn ≡ foundBy cs (first (entryIn r p) (es .rows)) later
   has-entry lsn h =
       options (first (entryIn r p) (es .rows))
       (λ n. absurd (missing refl (sym (h ∙ ap entryLsn n))))
       (λ e n.
       let s : r .log ≡ e .log = entry-in r p e (first-some (entryIn r p) (es .rows) n .1) .log in
-      let m : some lsn ≡ some (e .lsn) = h ∙ ap entryLsn n in
-      let l : lsn ≡ e .lsn = ap (λ (o : Option ℕ). value-of o) m in
-      ap₂ (named cs) s l ∙ ap (λ (o : Option Entry). foundBy cs o later) (sym n))
-    where
-      value-of : Option ℕ → ℕ
-      value-of none = 0
-      value-of (some n) = n
+      let l : lsn ≡ e .lsn = cc (h ∙ ap entryLsn n) in
+      ap₂ (entryCommit cs) s l ∙ ap (λ (o : Option Entry). foundBy cs o later) (sym n))
 
   -- it has none
   pub no-entry : none ≡ entryLsn (first (entryIn r p) (es .rows)) → foundBy cs (first (entryIn r p) (es .rows)) later ≡ later
@@ -85,7 +80,7 @@ module _ (cs : Table Commit) (es : Table Entry) (p : ℕ) (xs : List LogRange) (
 
     -- the range at i decides
     pub decides : (t : List ℕ) (lsn : ℕ) (hit : Hit) → some lsn ≡ entryLsn (first (entryIn (rangeSays (getD xs i d)) p) (es .rows)) → from 0 ≡ from i
-        → HitOf t (named cs (getD xs i d .log) lsn) hit → HitOf t (from 0) hit
+        → HitOf t (entryCommit cs (getD xs i d .log) lsn) hit → HitOf t (from 0) hit
     decides t lsn hit e inv w =
         subst (λ (q : Answer (Option Commit)). HitOf t q hit) (has-entry cs es (rangeSays (getD xs i d)) p (from (i + 1)) lsn e ∙ sym turn ∙ sym inv) w
 

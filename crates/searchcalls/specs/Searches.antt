@@ -29,8 +29,8 @@ searchIn cs es b p out = do
   searchPage cs es (snapshotIn b) p
 
 -- the commit that an index entry names (21: not stored)
-abbrev pub named : Table Commit → Id → ℕ → Answer (Option Commit)
-named cs log lsn = do
+abbrev pub entryCommit : Table Commit → Id → ℕ → Answer (Option Commit)
+entryCommit cs log lsn = do
   c ← need (getCommit cs log lsn) 21
   done (some c)
 

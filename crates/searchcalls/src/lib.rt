@@ -28,7 +28,7 @@ ghost use Rattle.layout.specs.Tables.{commitsIn, commitsOk, checkpointsIn, chec
 ghost use Rattle.layout.specs.Lent.{lent};
 ghost use Rattle.volume.specs.Snapshots.{rangeSays};
 ghost use Rattle.arguments.specs.Replies.{valueOr};
-ghost use Rattle.searchcalls.specs.Searches.{Within, hitSays, HitOf, named, searchIn};
+ghost use Rattle.searchcalls.specs.Searches.{Within, hitSays, HitOf, entryCommit, searchIn};
 
 // Where a search ends: at a commit of the table, at no entry, or at an entry whose commit is not stored.
 enum Hit {
@@ -40,7 +40,7 @@ enum Hit {
 // The commit that an index entry names.
 fn entry_commit(commits: &[u8], log: LogId, lsn: Lsn) -> Hit
     requires { ⌜ commitsOk (now commits) ≡ true ⌝ }
-    ensures { λ r. ⌜ HitOf (now (commits .entry)) (named (commitsIn (now (commits .entry))) log (lsn .0)) r ⌝ }
+    ensures { λ r. ⌜ HitOf (now (commits .entry)) (entryCommit (commitsIn (now (commits .entry))) log (lsn .0)) r ⌝ }
 {
     match find_commit(commits, log, lsn.0) {
         Place::At(i) => Hit::At(i),
