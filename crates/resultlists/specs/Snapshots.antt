@@ -6,10 +6,14 @@ use Rattle.rules.specs.Records.{Snapshot}
 use Rattle.rules.specs.Arguments.{snapshotLsns, snapshotOrder}
 use Rattle.arguments.specs.Snapshots.{snapshotIn, snapshotFormed}
 
--- the snapshot that bytes spell, or the number of what is wrong with them; a call on it is `snapshotGiven b >>= rule`
+-- the snapshot that bytes spell, or the number of what is wrong with them
 unfoldable pub snapshotGiven : List ℕ → Answer Snapshot
 snapshotGiven b = do
   ask (snapshotLsns (snapshotIn b)) 1
   ask (snapshotOrder (snapshotIn b)) 2
   ask (snapshotFormed b) 3
   done (snapshotIn b)
+
+-- a rule on it
+abbrev pub onSnapshot : {A : Type 0} → List ℕ → (Snapshot → Answer A) → Answer A
+onSnapshot b rule = snapshotGiven b >>= rule
