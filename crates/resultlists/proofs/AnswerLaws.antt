@@ -1,6 +1,6 @@
 -- What a call with a result list leaves, at each way out of the code: a refusal, 19, or the entries that were put. Assumes nothing.
-use Prim.Native.Nat.{ℕ, _*_, _/_, _<_, _≤_}
-use mathlib.Core.Path.{_≡_, refl, sym, ap, ap₂, _∙_}
+use Prim.Native.Nat.{ℕ, _/_, _<_, _≤_}
+use mathlib.Core.Path.{_≡_, sym, ap, ap₂, _∙_}
 use mathlib.Core.List.{List}
 use mathlib.Core.Bool.{Bool}
 use borrow.Author.Tests.{le-leb, lt-leb}
@@ -8,9 +8,8 @@ use lib.Dec.{leb}
 use lib.ListN.{length}
 use Rattle.octets.specs.Bytes.{put}
 use Rattle.octets.specs.Flat.{flat}
-use Rattle.core.specs.Answers.{Answer, refused, done, ask, _>>=_, _>>_}
+use Rattle.core.specs.Answers.{Answer, refused, done, ask, _>>_}
 use Rattle.layout.specs.Codecs.{Codec}
-use Rattle.arguments.specs.declared.Reply.{Reply}
 use Rattle.arguments.specs.Replies.{none-under, given}
 use Rattle.resultlists.specs.Lists.{slotsIn, listLeft}
 use Rattle.resultlists.proofs.EntryLaws.{Listed}
@@ -21,8 +20,12 @@ module _ {A : Type 0} (c : Codec A) (was : List ℕ) (items : ℕ) (q : Answer (
   left-refused n e = ap (listLeft c was items) (sym e)
 
   -- the entries that were put, and their number
+  pub left-put : (l : List A) (t : List ℕ) (n : ℕ) → q ≡ done l → t ≡ put 0 (flat (c .spell) l) was → n ≡ length l → (given, (t, n)) ≡ listLeft c was items q
+  left-put l t n e w k = ap₂ (λ (b : List ℕ) (m : ℕ). (given, (b, m))) w k ∙ ap (listLeft c was items) (sym e)
+
+  -- by a loop
   pub left-listed : (s : ℕ) (l : List A) (t : List ℕ) (n : ℕ) → q ≡ done l → Listed c s was l t → n ≡ length l → (given, (t, n)) ≡ listLeft c was items q
-  left-listed s l t n e w k = ap₂ (λ (b : List ℕ) (m : ℕ). (given, (b, m))) (w .bytes) k ∙ ap (listLeft c was items) (sym e)
+  left-listed s l t n e w k = left-put l t n e (w .bytes) k
 
 -- ---- room, as the rules ask for it
 

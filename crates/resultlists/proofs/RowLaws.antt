@@ -1,7 +1,7 @@
 -- Rows of a formed table are entries: the bytes from row i up to row j are those of the records there, one after another, each of its size. By induction on the number of rows. Assumes nothing.
 use Prim.Native.Nat.{ℕ, zero, suc, _+_, _-_, _*_, _<_, _≤_, Ordering}
 use mathlib.Core.Path.{_≡_, refl, sym, ap, ap₂, _∙_, subst}
-use mathlib.Core.List.{List, [], _∷_, _++_}
+use mathlib.Core.List.{List, _∷_, _++_}
 use mathlib.Core.Bool.{Bool, true}
 use native.Mathlib.Nat.{zero-mul}
 use native.Mathlib.Omega.{arith}

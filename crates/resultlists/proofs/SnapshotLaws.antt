@@ -7,7 +7,7 @@ use native.Mathlib.Omega.{arith}
 use borrow.Author.Tests.{le-leb}
 use lib.Dec.{leb}
 use lib.ListN.{length}
-use Rattle.core.specs.Answers.{Answer, refused, done, code, ask, _>>=_, _>>_}
+use Rattle.core.specs.Answers.{Answer, refused, done, code, ask, _>>_}
 use Rattle.rules.specs.Records.{Snapshot}
 use Rattle.rules.specs.Arguments.{snapshotLsns, snapshotOrder, snapshotForm}
 use Rattle.arguments.specs.Snapshots.{snapshotIn, snapshotFormed}
