@@ -27,7 +27,7 @@ snapshot-arg-requires : tie.Need-snapshot-arg-requires
 snapshot-arg-requires c κs = search needs
 
 count-commits-requires : tie.Need-count-commits-requires
-count-commits-requires c κs = ((sym (c .before .before .before .before .before .commits-formed .ensures) ∙ not-false _ (c .before .before .before .before .if1 .left)), arg-few ((c .before .before .before .before .before .before .before .before .before) .args .snapshot .now) (c .before .snapshot-arg .result) (c .before .snapshot-arg .ensures))
+count-commits-requires c κs = ((sym (c .before .before .before .before .before .commits-formed .ensures) ∙ not-false _ (c .before .before .before .before .if1 .left)), omega (arith, arg-few ((c .before .before .before .before .before .before .before .before .before) .args .snapshot .now) (c .before .snapshot-arg .result) (c .before .snapshot-arg .ensures)))
 
 returns-3 : tie.Need-returns-3
 returns-3 c = commits-short ((c .before .before .before .before .before .before .before .before .before .before .before) .args .commits .now) (sym (c .before .before .before .before .before .before .before .commits-formed .ensures) ∙ not-false _ (c .before .before .before .before .before .before .if1 .left)) ((c .before .before .before .before .before .before .before .before .before .before .before) .args .snapshot .now) (c .before .before .before .before .before .snapshot-code .result) (c .before .before .before .before .before .snapshot-code .ensures) ((c .before .before .before .before .before .before .before .before .before .before .before) .args .list .now) ((c .before .before .before .before .before .before .before .before .before .before .before) .args .items .now) (c .before .before .before .before .if2 .left) (c .before .before .before .snapshot-arg .result) (c .before .before .before .snapshot-arg .ensures) (c .before .count-commits .result) (c .before .count-commits .ensures .0) (c .if3 .taken)
