@@ -7,6 +7,7 @@ pub mod logs;
 pub mod numbers;
 pub mod pagecall;
 pub mod searchcall;
+pub mod pushcall;
 pub mod segments;
 pub mod sets;
 pub mod synccall;
