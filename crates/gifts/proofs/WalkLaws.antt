@@ -6,32 +6,30 @@ use mathlib.Core.List.{List, [], _∷_, _++_}
 use mathlib.Core.Option.{Option, none, some}
 use mathlib.Core.Bool.{Bool, true, false, cond}
 use native.Mathlib.Omega.{arith}
-use lib.ListN.{length, drop}
+use lib.ListN.{length, drop, length-map}
 use Rattle.pageset.specs.Sets.{shown, normal, normalForm}
-use Rattle.rules.specs.Records.{Pages, Segment, Commit}
+use Rattle.rules.specs.Lists.{isSome}
+use Rattle.rules.specs.Records.{Pages, Segment, Commit, Snapshot}
 use Rattle.rules.specs.Pages.{isEmpty, masked, truncated, minus}
 use Rattle.rules.specs.Write.{pagesOf}
-use Rattle.rules.specs.Walk.{Item, notTaken, gift, itemOf, walkFrom}
+use Rattle.rules.specs.Walk.{Item, notTaken, gift, itemOf, walkFrom, walkOf}
 use Rattle.rules.proofs.TableLaws.{cases, options, clash}
 use Rattle.rules.proofs.PageCounts.{truncated-normal}
 use Rattle.table.specs.Table.{countOf}
-use Rattle.layout.specs.Tables.{commitsOk}
+use Rattle.table.specs.declared.Run.{Run}
+use Rattle.layout.specs.Tables.{commitsIn, commitsOk}
 use Rattle.setbytes.specs.Laid.{setLaid}
 use Rattle.setbytes.proofs.LaidLaws.{says-laid, laid-normal}
 use Rattle.commits.specs.Places.{commitAt}
 use Rattle.commits.specs.declared.Place.{Place}
 use Rattle.commits.specs.declared.Place.the-variants.{At, Missing}
-use Rattle.gifts.specs.Paths.{placeAt, Inside, commitsAt, before}
-use Rattle.gifts.specs.Steps.{stepFrom, itemsFrom}
+use Rattle.gifts.specs.Paths.{placesIn, placeAt, Inside, commitsAt, PathOf, before}
+use Rattle.gifts.specs.Steps.{stepFrom, segmentOf, itemAt, itemsFrom}
 use Rattle.gifts.specs.declared.Step.{Step}
 use Rattle.gifts.proofs.SetLaws.{row-normal, notTaken-normal, minus-none}
 use Rattle.gifts.proofs.StepLaws.{place-left, place-few, place-below, place-none, before-next, step-end, step-here, step-on}
 
 -- ---- items
-
--- the item of a record, its segment and its gift
-abbrev pub item : List ℕ → ℕ → Segment → Pages → Item
-item t i s g = record { log = commitAt t i .log; lsn = commitAt t i .lsn; segment = s; pages = g }
 
 -- no segment, no gift
 nothing-left : (cs : List Commit) → notTaken [] cs ≡ []
@@ -47,8 +45,9 @@ left-out : (c : Commit) (o : Option Segment) (g : Pages) → isEmpty g ≡ true 
 left-out c none g e = refl
 left-out c (some s) g e = rw e
 
-one-item : (c : Commit) (s : Segment) (o : Option Segment) (g : Pages) → o ≡ some s → isEmpty g ≡ false → itemOf c o g ≡ record { log = c .log; lsn = c .lsn; segment = s; pages = g } ∷ []
-one-item c s o g q e = ap (λ (x : Option Segment). itemOf c x g) q ∙ rw e
+one-item : (c : Commit) (o : Option Segment) (g : Pages) → isSome o ≡ true → isEmpty g ≡ false → itemOf c o g ≡ record { log = c .log; lsn = c .lsn; segment = segmentOf o; pages = g } ∷ []
+one-item c none g q e = absurd (clash q refl)
+one-item c (some s) g q e = rw e
 
 -- a place, or none
 placed : {P : Type 0} (x : Place) → (x ≡ Missing → P) → ((i : ℕ) → x ≡ At i → P) → P
@@ -79,11 +78,10 @@ module _ (t ps : List ℕ) (ok : commitsOk t ≡ true) (inside : Inside t ps) (c
 
   -- what a step from k says where it finds record i
   pub record Stepped (k : ℕ) (s : Step) (i : ℕ) : Type 0 where
-    pub segment : Segment
-    pub has : commitAt t i .segment ≡ some segment
+    pub has : isSome (commitAt t i .segment) ≡ true
     pub below : i < countOf t
     pub normal : normal (s .gift) ≡ true
-    pub items : itemsFrom t count ps k ≡ item t i segment (shown (s .gift)) ∷ itemsFrom t count ps (s .next)
+    pub items : itemsFrom t count ps k ≡ itemAt t i (shown (s .gift)) ∷ itemsFrom t count ps (s .next)
     pub later : k < s .next
     pub few : s .next ≤ length ps
 
@@ -95,17 +93,18 @@ module _ (t ps : List ℕ) (ok : commitsOk t ≡ true) (inside : Inside t ps) (c
     inner : i < countOf t
     inner = place-below (countOf t) k i ps (inside .below) e
 
-    given : (o : Option Segment) → commitAt t i .segment ≡ o → Stepped k now i
-    given none q = absurd (clash (ap isEmpty (no-gift count (before k (commitsAt t ps)) (commitAt t i) q)) h)
-    given (some s) q = record {
-      segment = s;
-      has = q;
+    has-one : isSome (commitAt t i .segment) ≡ true
+    has-one = options (commitAt t i .segment) (λ q. absurd (clash (ap isEmpty (no-gift count (before k (commitsAt t ps)) (commitAt t i) q)) h)) (λ s q. ap (λ (o : Option Segment). isSome o) q)
+
+    given : Stepped k now i
+    given = record {
+      has = has-one;
       below = inner;
       normal = laid-normal (gave k i) (gave-normal k i inner);
       items =
           items-here k i e
-          ∙ ap (λ (l : List Item). l ++ itemsFrom t count ps (k + 1)) (one-item (commitAt t i) s (commitAt t i .segment) (gave k i) q h)
-          ∙ ap (λ (g : Pages). item t i s g ∷ itemsFrom t count ps (k + 1)) (sym (says-laid (gave k i)));
+          ∙ ap (λ (l : List Item). l ++ itemsFrom t count ps (k + 1)) (one-item (commitAt t i) (commitAt t i .segment) (gave k i) has-one h)
+          ∙ ap (λ (g : Pages). itemAt t i g ∷ itemsFrom t count ps (k + 1)) (sym (says-laid (gave k i)));
       later = omega arith;
       few = omega (arith, place-few k i ps e);
     }
@@ -117,7 +116,6 @@ module _ (t ps : List ℕ) (ok : commitsOk t ≡ true) (inside : Inside t ps) (c
 
     steps-on : (i : ℕ) → Stepped (k + 1) (stepFrom t count ps (k + 1)) i → Stepped k (stepFrom t count ps k) i
     steps-on i r = subst (λ (s : Step). Stepped k s i) (sym (step-on t ps count k p e h)) (record {
-      segment = r .segment;
       has = r .has;
       below = r .below;
       normal = r .normal;
@@ -135,7 +133,7 @@ module _ (t ps : List ℕ) (ok : commitsOk t ≡ true) (inside : Inside t ps) (c
       (λ b. steps-on k p q b i (found-by n (k + 1) (omega arith) i (ap (λ (s : Step). s .at) (sym (step-on t ps count k p q b)) ∙ e)))
       (λ b. let s = step-here t ps count k p q b in
       let z : p ≡ i = same-place p i (sym (ap (λ (s : Step). s .at) s) ∙ e) in
-      subst (λ (j : ℕ). Stepped k (stepFrom t count ps k) j) z (subst (λ (x : Step). Stepped k x p) (sym s) (given k p q b (commitAt t p .segment) refl))))
+      subst (λ (j : ℕ). Stepped k (stepFrom t count ps k) j) z (subst (λ (x : Step). Stepped k x p) (sym s) (given k p q b))))
     where
       same-place : (p i : ℕ) → At p ≡ At i → p ≡ i
       same-place p i e = cc
@@ -155,3 +153,24 @@ module _ (t ps : List ℕ) (ok : commitsOk t ≡ true) (inside : Inside t ps) (c
 
     pub step-none : s .at ≡ Missing → itemsFrom t count ps k ≡ []
     step-none e = none-by (length ps) k (omega arith) (ap (λ (x : Step). x .at) (sym r) ∙ e)
+
+-- ---- the whole walk
+
+-- at most an item for each commit
+item-few : (c : Commit) (o : Option Segment) (g : Pages) (l : List Item) → length (itemOf c o g ++ l) ≤ suc (length l)
+item-few c none g l = omega arith
+item-few c (some s) g l = cases (isEmpty g) (λ e. rw e (omega arith)) (λ e. rw e (omega arith))
+
+walk-few : (count : ℕ) (earlier cs : List Commit) → length (walkFrom count earlier cs) ≤ length cs
+walk-few count earlier [] = omega arith
+walk-few count earlier (c ∷ cs) =
+    omega (arith, item-few c (c .segment) (gift count earlier c) (walkFrom count (c ∷ earlier) cs), walk-few count (c ∷ earlier) cs)
+
+pub items-few : (t ps : List ℕ) (count : ℕ) → length (itemsFrom t count ps 0) ≤ length ps
+unfolding itemsFrom
+items-few t ps count = omega (arith, walk-few count [] (commitsAt t ps), length-map ps (commitAt t))
+
+-- the items from the start on are the rule's, where the places are the path's
+pub items-all : (t : List ℕ) (s : Snapshot) (runs : List Run) → PathOf t (s .path) runs → itemsFrom t (s .count) (placesIn runs) 0 ≡ walkOf (commitsIn t) s
+unfolding itemsFrom walkOf
+items-all t s runs h = ap (walkFrom (s .count) []) (h .commits)
