@@ -3,6 +3,7 @@ use Prim.Native.Nat.{ℕ, _*_, _/_, _≤_}
 use mathlib.Core.Path.{_≡_, refl, sym, ap, ap₂, _∙_}
 use mathlib.Core.List.{List}
 use mathlib.Core.Bool.{Bool, true, false}
+use native.Mathlib.Omega.{arith}
 use lib.Dec.{leb}
 use lib.ListN.{length}
 use Rattle.octets.specs.Bytes.{put}
@@ -17,7 +18,15 @@ use Rattle.layout.specs.Lent.{lent}
 use Rattle.layout.proofs.LentLaws.{lent-no, lent-yes}
 use Rattle.rows.proofs.Rows.{formed-rules}
 use Rattle.rows.proofs.Tables.{commits}
+use Rattle.table.specs.declared.Run.{Run}
+use Rattle.volume.specs.declared.snapshot.Snapshot.{Snapshot as CodeSnapshot}
+use Rattle.volume.specs.Snapshots.{snapshotSays, laid}
+use Rattle.volume.proofs.SnapshotLaws.{laid-says}
+use Rattle.gifts.specs.Paths.{placesIn, PathOf}
+use Rattle.gifts.specs.Steps.{itemsFrom}
+use Rattle.gifts.proofs.WalkLaws.{items-all}
 use Rattle.arguments.specs.Snapshots.{snapshotIn}
+use Rattle.arguments.proofs.SnapshotLaws.{in-few}
 use Rattle.arguments.specs.Replies.{none-under, given}
 use Rattle.resultlists.specs.Lists.{slotsIn, listLeft}
 use Rattle.resultlists.specs.Snapshots.{snapshotGiven, onSnapshot}
@@ -25,6 +34,16 @@ use Rattle.resultlists.proofs.AnswerLaws.{left-refused}
 use Rattle.resultlists.proofs.SnapshotLaws.{given-refused, given-read, given-passed}
 use Rattle.walkcalls.specs.Items.{itemBytes}
 use Rattle.walkcalls.proofs.ItemLaws.{item-size}
+
+-- the snapshot that was read of bytes
+module _ (b : List ℕ) (s : CodeSnapshot) (e : s ≡ laid (snapshotIn b)) where
+  pub arg-few : s .len ≤ 8
+  unfolding laid
+  arg-few = omega (arith, ap (λ (x : CodeSnapshot). x .len) e, in-few b)
+
+  -- the walk of its path, by places
+  pub arg-items : (t : List ℕ) (runs : List Run) → PathOf t (snapshotSays s .path) runs → itemsFrom t (s .count .0) (placesIn runs) 0 ≡ walkOf (commitsIn t) (snapshotIn b)
+  arg-items t runs h = items-all t (snapshotSays s) runs h ∙ ap (walkOf (commitsIn t)) (ap snapshotSays e ∙ laid-says (snapshotIn b))
 
 module _ (t b was : List ℕ) (items : ℕ) where
   abbrev rule : Answer (List Item)

@@ -12,7 +12,8 @@ use lib.ListN.{length, length-append, length-replicate}
 use Rattle.octets.specs.Bytes.{bytesOf, part, put}
 use Rattle.octets.proofs.Numbers as N
 use Rattle.octets.proofs.Places as P
-use Rattle.pageset.specs.Sets.{normalForm}
+use Rattle.pageset.specs.declared.PageSet.{PageSet}
+use Rattle.pageset.specs.Sets.{shown, normalForm, normal}
 use Rattle.rules.specs.Lists.{given, isSome}
 use Rattle.rules.specs.Records.{Id, Hash, Pages, Segment, Commit}
 use Rattle.rules.specs.Forms.{bytesForm, idForm, lsnForm, hashForm, segmentForm, commitForm}
@@ -24,12 +25,13 @@ use Rattle.layout.specs.Values.{windowBytes, setBytes, frameBytes, framesBytes,
 use Rattle.layout.specs.Records.{logLsnBytes, hashBytes, commitBytes}
 use Rattle.layout.specs.Tables.{commitsOk}
 use Rattle.layout.proofs.FormHolds.{segment-held, set-held}
+use Rattle.setbytes.proofs.LaidLaws.{shown-form}
 use Rattle.commitbytes.proofs.CommitLaws.{commit-at}
 use Rattle.commitbytes.proofs.PartLaws.{key-long}
 use Rattle.rows.proofs.Checks.{row-in, row-form, row-spelled}
 use Rattle.rows.proofs.Tables.{commits}
 use Rattle.commits.specs.Places.{commitAt}
-use Rattle.gifts.specs.Steps.{segmentOf}
+use Rattle.gifts.specs.Steps.{segmentOf, itemAt}
 use Rattle.walkcalls.specs.Items.{itemBytes}
 
 -- ---- what stands in a row
@@ -150,3 +152,18 @@ module _ (x : Item) (i : length (x .log) ≡ 16) (s : length (segmentBytes .spel
       let two = P.then-stored one 594 g s (omega arith) (r ∙ ap (λ (m : ℕ). put m g u) (let e : at + 24 ≡ at + (16 + 8) = omega arith in e)) in
       P.then-stored two 385 k (set-long (x .pages) n) (omega arith) (z ∙ ap (λ (m : ℕ). put m k v) (let e : at + 618 ≡ at + (16 + 8 + 594) = omega arith in e)) .bytes
       ∙ ap (λ (m : List ℕ). put at m b) (append-assoc (x .log ++ f) g k ∙ append-assoc (x .log) f (g ++ k))
+
+-- ---- the item of a row, stored as code stores it
+
+module _ (t : List ℕ) (ok : commitsOk t ≡ true) (i : ℕ) (l : i < countOf t) (has : isSome (commitAt t i .segment) ≡ true) (g : PageSet) (n : normal g ≡ true) where
+  pub row-long : length (itemBytes .spell (itemAt t i (shown g))) ≡ 1003
+  row-long = item-long (itemAt t i (shown g)) (log-long t ok i l) (spelled-long t ok i l has) (shown-form g n)
+
+  pub row-stored : (from lsn at : ℕ) (b x y z w : List ℕ) → from ≡ 2 + i * 722 → lsn ≡ commitAt t i .lsn → at + 1003 ≤ length b → x ≡ put at (part (from + 1) 16 t) b → y ≡ put (at + 16) (bytesOf 8 lsn) x
+      → z ≡ put (at + 24) (part (from + 63) 594 t) y → w ≡ put (at + 618) (setBytes .spell (shown g)) z → w ≡ put at (itemBytes .spell (itemAt t i (shown g))) b
+  row-stored from lsn at b x y z w e m h p q r v =
+      item-stored (itemAt t i (shown g)) (log-long t ok i l) (spelled-long t ok i l has) (shown-form g n) at b x y z w h
+      (p ∙ ap (λ (s : List ℕ). put at s b) (row-log t ok i l from e))
+      (q ∙ ap (λ (k : ℕ). put (at + 16) (bytesOf 8 k) x) m)
+      (r ∙ ap (λ (s : List ℕ). put (at + 24) s y) (row-segment t ok i l has from e))
+      v
