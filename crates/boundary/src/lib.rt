@@ -6,3 +6,4 @@ pub mod numbers;
 pub mod segments;
 pub mod sets;
 pub mod tables;
+pub mod walkcall;
