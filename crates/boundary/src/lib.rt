@@ -16,3 +16,4 @@ pub mod tagcall;
 pub mod volumecall;
 pub mod viewcall;
 pub mod writecall;
+pub mod walkcall;
