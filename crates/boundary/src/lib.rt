@@ -4,6 +4,7 @@ pub mod commitcall;
 pub mod forms;
 pub mod logs;
 pub mod numbers;
+pub mod pagecall;
 pub mod segments;
 pub mod sets;
 pub mod synccall;

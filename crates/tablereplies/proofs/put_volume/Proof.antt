@@ -39,7 +39,7 @@ same-length c = search needs
 returns-4 : tie.Need-returns-4
 unfolding volumePut
 returns-4 c =
-    let v = (c .before .before .before .before .before .before .before .before .before) .args .a .volume in
+    let v = c .before .before .before .before .before .before .before .before .before .args .a .volume in
     let n = long (c .before .before .before .before .before .before .before .before .before) in
     let whole = c .before .before .volume-write .ensures ∙ put-all (volumeBytes .spell (volumeSays v)) _ (length-volume (volumeSays v) (n .0) (n .1) (n .2) (long-beside (v .pending) (v .«pending_hash») (n .3)) ∙ sym (c .before .before .before .before .before .before .if2 .left)) in
     ap (λ (b : List ℕ). (given, b)) whole ∙ if-ne _ _ _ _ 20 (c .before .before .before .before .before .before .before .if1 .left) (if-eq _ _ _ _ 117 (c .before .before .before .before .before .before .if2 .left) (if-eq _ _ _ _ 0 (c .before .before .before .before .before .if3 .left) refl))

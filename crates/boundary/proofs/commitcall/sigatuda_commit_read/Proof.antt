@@ -15,7 +15,7 @@ same-length : tie.Need-same-length
 same-length c = search needs
 
 returns : tie.Need-returns
-returns c = left-found commitBytes ((c .before .before .before .before .before .before .before .before) .args .out .now) _ _ _ _ (c .found-or-not .ensures) (c .before .before .before .commit-read .ensures)
+returns c = left-found commitBytes (c .before .before .before .before .before .before .before .before .args .out .now) _ _ _ _ (c .found-or-not .ensures) (c .before .before .before .commit-read .ensures)
 
 pub sigatuda-commit-read-spec : {M : Type 1} → statement M
 sigatuda-commit-read-spec = tie.close (tie.spec commit-read-requires found-or-not-requires same-length returns)

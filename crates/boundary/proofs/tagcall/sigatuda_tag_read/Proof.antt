@@ -17,7 +17,7 @@ put-tagged-requires c κs = search needs
 
 returns : tie.Need-returns
 returns c =
-    let g = (c .before .before .before .before .before) .args in
+    let g = c .before .before .before .before .before .args in
     c .put-tagged .ensures
     ∙ ap (taggedPut (g .vid .now)) (c .before .before .tag-read .ensures)
     ∙ left-tagged (g .vid .now) (lent (tagsOk (g .tags .now)) (tagRead (tagsIn (g .tags .now)) (g .name .now)))

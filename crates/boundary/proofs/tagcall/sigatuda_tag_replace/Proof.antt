@@ -21,7 +21,7 @@ same-length c = search needs
 
 returns : tie.Need-returns
 returns c =
-    let g = (c .before .before .before .before .before .before .before .before .before) .args in
+    let g = c .before .before .before .before .before .before .before .before .before .args in
     let rule = lent (tagsOk (g .tags .now)) (tagReplace (tagsIn (g .tags .now)) (g .name .now) (g .vid .now)) in
     (c .put-tagged .ensures ∙ ap (taggedPut (g .earlier .now)) (c .before .before .before .before .tag-replace .ensures .0) ∙ left-tagged (g .earlier .now) (earlier rule), c .before .before .before .before .tag-replace .ensures .1)
 

@@ -17,7 +17,7 @@ same-length c = search needs
 
 returns : tie.Need-returns
 returns c =
-    let g = (c .before .before .before .before .before .before .before .before) .args in
+    let g = c .before .before .before .before .before .before .before .before .args in
     c .before .before .put-volume .ensures ∙ ap (volumePut (g .out .now)) (c .before .before .before .before .volume-read .ensures) ∙ left-volume (g .out .now) (g .volumes .now) (g .vid .now)
 
 pub sigatuda-volume-read-spec : {M : Type 1} → statement M
