@@ -94,6 +94,40 @@ fn reads() {
     }
 }
 
+/// A page marked present, and one removed.
+fn marks() {
+    for count in [512, 65_534] {
+        let every_other = |i: usize, b: &mut [u8]| b[17..21].copy_from_slice(&(!(200_000 - 2 * i as u32)).to_be_bytes());
+        let fresh = [roomy(table(21, count, every_other), 21, 1)];
+        let page = 200_001 - 2 * (count as u32 / 2);
+        let mut record = [0; 21];
+        record[17..].copy_from_slice(&(!page).to_be_bytes());
+        let ours = |[p]: &mut [Vec<u8>; 1]| plain::page_mark(p, &[0; 16], page).code == 0;
+        let rust = |[p]: &mut [Vec<u8>; 1]| formed(p, 21, 21, present_form) && put(p, 21, 21, &record);
+        let (mut left, mut right) = (fresh.clone(), fresh.clone());
+        assert!(ours(&mut left) && rust(&mut right) && left == right, "the same bytes");
+        line("page marked, pages held", count, race_stores(&fresh, ours, rust));
+    }
+}
+
+fn removals() {
+    for count in [512, 65_535] {
+        let fresh = [table(21, count, present)];
+        let page = 70_000 - count as u32 / 2;
+        let mut key = [0; 21];
+        key[17..].copy_from_slice(&(!page).to_be_bytes());
+        let ours = |[p]: &mut [Vec<u8>; 1]| plain::page_remove(p, &[0; 16], page).code == 0;
+        let rust = |[p]: &mut [Vec<u8>; 1]| {
+            let formed = formed(p, 21, 21, present_form);
+            remove(p, 21, &key);
+            formed
+        };
+        let (mut left, mut right) = (fresh.clone(), fresh.clone());
+        assert!(ours(&mut left) && rust(&mut right) && left == right, "the same bytes");
+        line("page removed, pages held", count, race_stores(&fresh, ours, rust));
+    }
+}
+
 /// A volume's snapshot, of one volume with a sync point.
 fn snapshots() {
     for count in [32, 4096] {
@@ -137,5 +171,7 @@ fn main() {
     writes();
     writes_of_one();
     reads();
+    marks();
+    removals();
     snapshots();
 }

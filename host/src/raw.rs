@@ -81,6 +81,11 @@ unsafe extern "C" {
     pub(crate) fn sigatuda_latest_lsn(commits: *const u8, commits_len: usize, log: *const [u8; 16], lsn: *mut u64) -> Reply;
     pub(crate) fn sigatuda_page_count(commits: *const u8, commits_len: usize, log: *const [u8; 16], lsn: u64, count: *mut u32) -> Reply;
     pub(crate) fn sigatuda_write_commit(commits: *mut u8, commits_len: usize, checkpoints: *mut u8, checkpoints_len: usize, index: *mut u8, index_len: usize, commit: *const u8, commit_len: usize) -> Reply;
+    // over tables: present pages
+    pub(crate) fn sigatuda_page_present(presence: *const u8, presence_len: usize, sid: *const [u8; 16], page: u32) -> Reply;
+    pub(crate) fn sigatuda_page_mark(presence: *mut u8, presence_len: usize, sid: *const [u8; 16], page: u32) -> Reply;
+    pub(crate) fn sigatuda_page_remove(presence: *mut u8, presence_len: usize, sid: *const [u8; 16], page: u32) -> Reply;
+    pub(crate) fn sigatuda_pages_remove(presence: *mut u8, presence_len: usize, sid: *const [u8; 16], first: u32, last: u32) -> Reply;
     // over tables: snapshots
     pub(crate) fn sigatuda_snapshot(volumes: *const u8, volumes_len: usize, commits: *const u8, commits_len: usize, vid: *const [u8; 16], out: *mut u8, out_len: usize) -> Reply;
     pub(crate) fn sigatuda_latest_check(volumes: *const u8, volumes_len: usize, commits: *const u8, commits_len: usize, vid: *const [u8; 16], snapshot: *const u8, snapshot_len: usize) -> Reply;

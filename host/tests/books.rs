@@ -132,5 +132,18 @@ fn sync_and_prepare() {
     assert_eq!(t.sync(VID), Err(Refusal::Diverged));
 }
 
+#[test]
+fn present_pages() {
+    let (mut tables, sid) = (books(), SegmentId(id(7)));
+    let presence = &mut tables.lend().presence;
+    for n in [1, 2, 3, 3] {
+        assert_eq!(presence.mark(sid, page(n)), Ok(()));
+    }
+    assert_eq!((presence.held(), presence.has(sid, page(2)), presence.has(sid, page(4))), (Some(3), Ok(true), Ok(false)));
+    assert_eq!((presence.remove_range(sid, page(1), page(2)), presence.remove(sid, page(9))), (Ok(()), Ok(())));
+    assert_eq!(presence.records().collect::<Result<Vec<_>, _>>(), Ok(vec![PresentPage { sid, page: page(3) }]));
+    assert_eq!(presence.remove_range(sid, page(3), page(2)), Err(Refusal::Reversed));
+}
+
 /// Identifiers that nothing has.
 const SPARE: NewVolume = NewVolume { vid: VolumeId(id(21)), local: LogId(id(22)), remote: LogId(id(23)) };

@@ -333,6 +333,27 @@ fn write_commit() {
 }
 
 #[test]
+fn page_present() {
+    hold(&[PRESENCE], Place::None, &[], on_page, |t, a, _, _| plain::page_present(&t[5], &a.sid, a.page));
+}
+
+#[test]
+fn page_mark() {
+    hold(&[PRESENCE], Place::None, &[19], on_page, |t, a, _, _| plain::page_mark(&mut t[5], &a.sid, a.page));
+}
+
+#[test]
+fn page_remove() {
+    hold(&[PRESENCE], Place::None, &[], on_page, |t, a, _, _| plain::page_remove(&mut t[5], &a.sid, a.page));
+}
+
+#[test]
+fn pages_remove() {
+    let earns = |a: &Args| vec![span(a.page.into(), a.last.into())];
+    hold(&[PRESENCE], Place::None, &[], earns, |t, a, _, _| plain::pages_remove(&mut t[5], &a.sid, a.page, a.last));
+}
+
+#[test]
 fn view() {
     hold(&[VOLUMES, COMMITS], Place::Record(262), &[4], none, |t, a, out, _| plain::snapshot(&t[0], &t[2], &a.vid, out));
 }

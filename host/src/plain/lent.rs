@@ -81,6 +81,26 @@ pub fn write_commit(commits: &mut [u8], checkpoints: &mut [u8], index: &mut [u8]
     }
 }
 
+/// Whether a page of a segment is present: 20, 1.
+pub fn page_present(presence: &[u8], sid: &[u8; 16], page: u32) -> Reply {
+    unsafe { raw::sigatuda_page_present(presence.as_ptr(), presence.len(), sid, page) }
+}
+
+/// Marks a page of a segment present; done where it is already: 20, 1, 19.
+pub fn page_mark(presence: &mut [u8], sid: &[u8; 16], page: u32) -> Reply {
+    unsafe { raw::sigatuda_page_mark(presence.as_mut_ptr(), presence.len(), sid, page) }
+}
+
+/// Removes a present page; done where there is none: 20, 1.
+pub fn page_remove(presence: &mut [u8], sid: &[u8; 16], page: u32) -> Reply {
+    unsafe { raw::sigatuda_page_remove(presence.as_mut_ptr(), presence.len(), sid, page) }
+}
+
+/// Removes the present pages of a segment from `first` to `last`: 20, 1, 2.
+pub fn pages_remove(presence: &mut [u8], sid: &[u8; 16], first: u32, last: u32) -> Reply {
+    unsafe { raw::sigatuda_pages_remove(presence.as_mut_ptr(), presence.len(), sid, first, last) }
+}
+
 /// What the volume's reader sees now: 20, 3 for `out`, 4.
 pub fn snapshot(volumes: &[u8], commits: &[u8], vid: &[u8; 16], out: &mut [u8]) -> Reply {
     unsafe { raw::sigatuda_snapshot(volumes.as_ptr(), volumes.len(), commits.as_ptr(), commits.len(), vid, out.as_mut_ptr(), out.len()) }

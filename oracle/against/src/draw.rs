@@ -200,10 +200,12 @@ impl Draw {
 
     /// A call with its arguments.
     pub fn call(&mut self, both: &Both) -> (Op, Args) {
-        let op = match self.r.below(4) {
+        let op = match self.r.below(3) {
             0 => self.r.pick(&[Op::WriteCommit, Op::Save, Op::Open, Op::Prepare, Op::Success, Op::Recover, Op::Sync]),
             _ => self.r.pick(Op::ALL),
         };
+        // volumes are not to run out
+        let op = if op == Op::VolumeDelete && !self.r.one_in(4) { Op::VolumeExists } else { op };
         let op = if Op::ALL.contains(&op) { op } else { self.r.pick(Op::ALL) };
         let mut args = self.args(op, both);
         match op {
