@@ -102,8 +102,7 @@ fn tags() {
 fn commits() {
     let mut tables = books();
     let mut t = tables.lend();
-    let (first, second) =
-        (commit(LOCAL, 1, &[1, 2]), Commit { checkpoints: List::from_slice(&[lsn(1), lsn(2)]).unwrap(), ..commit(LOCAL, 2, &[2]) });
+    let (first, second) = (commit(LOCAL, 1, &[1, 2]), Commit { checkpoints: List::from_slice(&[lsn(1), lsn(2)]).unwrap(), ..commit(LOCAL, 2, &[2]) });
     assert_eq!((t.write_commit(&first), t.write_commit(&second)), (Ok(()), Ok(())));
     assert_eq!((t.commits.read(LOCAL, lsn(1)), t.commits.latest(LOCAL)), (Ok(Some(first)), Ok(Some(second))));
     assert_eq!((t.commits.latest_lsn(LOCAL), t.commits.latest_lsn(REMOTE)), (Ok(Some(lsn(2))), Ok(None)));

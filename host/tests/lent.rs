@@ -302,9 +302,7 @@ fn tag_delete() {
 
 #[test]
 fn tag_replace() {
-    hold(&[TAGS], Place::Number(16), &[19], name, |t, a, out, _| {
-        id(out, |earlier| plain::tag_replace(&mut t[1], &a.name, &a.vid, earlier))
-    });
+    hold(&[TAGS], Place::Number(16), &[19], name, |t, a, out, _| id(out, |earlier| plain::tag_replace(&mut t[1], &a.name, &a.vid, earlier)));
 }
 
 #[test]

@@ -1,6 +1,6 @@
 //! Calls on the commits alone, and on the checkpoints.
-use super::found;
-use crate::{Commit, Commits, LogId, Lsn, PageCount, Refusal, plain};
+use super::{Entries, found, listed};
+use crate::{Checkpoints, Commit, Commits, LogId, Lsn, PageCount, Refusal, Snapshot, WalkItem, plain};
 
 impl Commits<'_> {
     /// The commit at an LSN of a log, or nothing: 20.
@@ -27,3 +27,4 @@ impl Commits<'_> {
         Ok(found.then_some(PageCount(count)))
     }
 }
+

@@ -1,6 +1,6 @@
 //! Calls that read several tables.
-use super::written;
-use crate::{Refusal, Snapshot, Tables, VolumeId, plain};
+use super::{Entries, found, listed, written};
+use crate::{Commit, PageIdx, Refusal, SegmentRange, Snapshot, Tables, VolumeId, plain};
 
 /// Calls that read several tables.
 impl Tables<'_> {

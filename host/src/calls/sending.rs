@@ -1,6 +1,6 @@
 //! Calls that follow the remote log and send to it.
 use super::done;
-use crate::{PendingCommit, Refusal, Tables, VolumeId, plain};
+use crate::{Commit, PendingCommit, Refusal, Tables, VolumeId, plain};
 
 /// Calls that follow the remote log and send to it.
 impl Tables<'_> {

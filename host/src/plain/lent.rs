@@ -67,18 +67,7 @@ pub fn page_count(commits: &[u8], log: &[u8; 16], lsn: u64, count: &mut u32) -> 
 
 /// Stores a commit with its checkpoints and index entries, all or nothing: 20, 1, 3, 19.
 pub fn write_commit(commits: &mut [u8], checkpoints: &mut [u8], index: &mut [u8], commit: &[u8]) -> Reply {
-    unsafe {
-        raw::sigatuda_write_commit(
-            commits.as_mut_ptr(),
-            commits.len(),
-            checkpoints.as_mut_ptr(),
-            checkpoints.len(),
-            index.as_mut_ptr(),
-            index.len(),
-            commit.as_ptr(),
-            commit.len(),
-        )
-    }
+    unsafe { raw::sigatuda_write_commit(commits.as_mut_ptr(), commits.len(), checkpoints.as_mut_ptr(), checkpoints.len(), index.as_mut_ptr(), index.len(), commit.as_ptr(), commit.len()) }
 }
 
 /// Whether a page of a segment is present: 20, 1.
@@ -108,9 +97,7 @@ pub fn snapshot(volumes: &[u8], commits: &[u8], vid: &[u8; 16], out: &mut [u8]) 
 
 /// Whether a snapshot is the volume's latest: 20, 1, 2, 3, 4.
 pub fn latest_check(volumes: &[u8], commits: &[u8], vid: &[u8; 16], snapshot: &[u8]) -> Reply {
-    unsafe {
-        raw::sigatuda_latest_check(volumes.as_ptr(), volumes.len(), commits.as_ptr(), commits.len(), vid, snapshot.as_ptr(), snapshot.len())
-    }
+    unsafe { raw::sigatuda_latest_check(volumes.as_ptr(), volumes.len(), commits.as_ptr(), commits.len(), vid, snapshot.as_ptr(), snapshot.len()) }
 }
 
 /// Moves the volume's sync point to the remote's latest: 20, 4, 16, 8.

@@ -4,6 +4,7 @@ use crate::judge::{damage, make};
 use crate::tables::{Both, read, to_commit, to_hash};
 use graft::core::{self, lsn::LSN, page::Page};
 use graft::local::fjall_storage::FjallStorage;
+use graft::snapshot::Snapshot;
 use graft::volume;
 use harness::forms;
 use harness::random::Random;
@@ -131,7 +132,7 @@ impl Draw {
         form
     }
 
-    /// A snapshot: the volume's latest, an earlier one, or any path.
+    /// A snapshot: the volume's latest, one near it, an earlier one, or any path.
     fn snapshot(&mut self, vid: &Id, both: &Both) -> Vec<u8> {
         let latest = both.original.reads().snapshot(&core::VolumeId::new(*vid)).ok();
         match (latest, self.r.below(8)) {
@@ -142,6 +143,7 @@ impl Draw {
                 }
                 form
             }
+            (Some(latest), 6) => self.near(&latest),
             (_, 5) if !self.snapshots.is_empty() => {
                 let at = self.r.below(self.snapshots.len() as u64) as usize;
                 self.snapshots[at].clone()
@@ -157,6 +159,22 @@ impl Draw {
                 forms::snapshot_bytes(self.count(), &path)
             }
         }
+    }
+
+    /// A snapshot with one thing changed: a range left out, an end moved, or two ranges the other way round.
+    fn near(&mut self, snapshot: &Snapshot) -> Vec<u8> {
+        let mut path: Vec<_> = snapshot.iter().map(|r| (r.log.bytes(), r.lsns.start().to_u64(), r.lsns.end().to_u64())).collect();
+        if path.is_empty() {
+            return forms::snapshot_bytes(self.count(), &[(self.few(4), 1, self.lsn())]);
+        }
+        let at = self.r.below(path.len() as u64) as usize;
+        match self.r.below(4) {
+            0 => drop(path.remove(at)),
+            1 => path.reverse(),
+            2 => path[at].2 = path[at].2.saturating_add(1),
+            _ => path[at].2 = path[at].1,
+        }
+        forms::snapshot_bytes(snapshot.page_count.to_u32(), &path)
     }
 
     /// Puts records into an original's storage that no call would leave together, or none.
