@@ -5,6 +5,7 @@ pub mod forms;
 pub mod logs;
 pub mod numbers;
 pub mod pagecall;
+pub mod pushcall;
 pub mod segments;
 pub mod sets;
 pub mod synccall;
