@@ -146,3 +146,20 @@ fn present_pages() {
 
 /// Identifiers that nothing has.
 const SPARE: NewVolume = NewVolume { vid: VolumeId(id(21)), local: LogId(id(22)), remote: LogId(id(23)) };
+
+#[test]
+fn success_and_recovery() {
+    let mut tables = OwnedTables { volumes: table_of(&volume(None, None)), ..books() };
+    let mut t = tables.lend();
+    let hash = CommitHash([1; 32]);
+    let pending = PendingCommit { local: lsn(3), commit: lsn(1), hash };
+    let sent = Commit { hash: Some(hash), ..commit(REMOTE, 1, &[1]) };
+    assert_eq!((t.success(VID, &sent), t.recover(VID)), (Err(Refusal::NonePending), Ok(())));
+    t.prepare(VID, pending).unwrap();
+    assert_eq!(t.success(VID, &Commit { hash: None, ..sent }), Err(Refusal::NotThePending));
+    assert_eq!((t.success(VID, &sent), t.volumes.read(VID)), (Ok(()), Ok(volume(synced(1, Some(3)), None))));
+    t.prepare(VID, PendingCommit { local: lsn(4), commit: lsn(2), ..pending }).unwrap();
+    t.write_commit(&commit(REMOTE, 2, &[1])).unwrap();
+    assert_eq!(t.recover(VID), Err(Refusal::Diverged), "another's commit is there");
+    assert_eq!(t.volumes.read(VID), Ok(volume(synced(1, Some(3)), None)), "and the pending one is dropped");
+}

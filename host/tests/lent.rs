@@ -160,6 +160,50 @@ impl Place {
     }
 }
 
+/// A call that was made: what it was lent, before and after.
+struct Made<'a> {
+    lent: &'a [usize],
+    place: Place,
+    before: Six,
+    after: Six,
+    out: Vec<u8>,
+    items: u32,
+    reply: Reply,
+}
+
+impl Made<'_> {
+    fn formed(&self, six: &Six) -> bool {
+        self.lent.iter().all(|&kind| TABLES[kind].formed(&six[kind]))
+    }
+
+    /// The number is document 01's: 20, else the lowest that the arguments and the lent place earn, else one of the later ones.
+    fn check_number(&self, earned: Vec<u32>, later: &[u32]) {
+        let earned = earned.into_iter().chain([self.place.earns(self.out.len())]).filter(|&n| n != 0).min();
+        match (self.reply.code, earned) {
+            (code, _) if !self.formed(&self.before) => assert_eq!(code, 20, "a table that the judge refuses"),
+            (code, Some(number)) => assert_eq!(code, number, "what the arguments earn"),
+            (code, None) => assert!(code == 0 || later.contains(&code), "{code} is no number of this call"),
+        }
+    }
+
+    /// A refused call leaves all that is lent as it was, and one that found nothing what it would write; a call that is done leaves tables in form.
+    fn check_lent(&self, drops_with_8: bool) {
+        let (reply, written) = (self.reply, self.items != WORD || self.out.iter().any(|&b| b != UNTOUCHED));
+        assert!(reply.found == 1 || (reply.found == 0 && !written), "{reply:?}, and a lent place was written");
+        assert!(reply.code == 0 || reply.found == 0);
+        assert!(self.after.iter().zip(&self.before).all(|(now, before)| now.len() == before.len()));
+        match reply.code {
+            0 => assert!(self.formed(&self.after), "done, and a table is not in form"),
+            8 if drops_with_8 => assert!(self.after[1..] == self.before[1..] && self.formed(&self.after), "only a volume changes"),
+            _ => assert!(self.after == self.before, "{reply:?}, and a table was changed"),
+        }
+        if let (Place::List(size), 0) = (self.place, reply.code) {
+            let filled = self.items as usize * size;
+            assert!(filled <= self.out.len() && self.out[filled..].iter().all(|&b| b == UNTOUCHED), "past the answer a list stays");
+        }
+    }
+}
+
 /// Holds a call to document 01: it is lent some tables and a place, its arguments earn numbers, and it may be refused by `later` ones.
 fn hold(
     lent: &[usize],
@@ -176,35 +220,12 @@ fn hold(
         lent.iter().for_each(|&kind| six[kind] = table(kind, spoiled == Some(kind), &mut r));
         let (mut args, before) = (Args::new(&mut r), six.clone());
         aim(&mut args, &six, &mut r);
-        let (mut out, mut items) = (place.lent(&mut r), WORD);
-        let mut reply = Reply { code: 0, found: 0 };
-        let depth = stack.run(|| reply = call(&mut six, &args, &mut out, &mut items));
-        deepest = deepest.max(depth);
+        let (mut out, mut items, mut reply) = (place.lent(&mut r), WORD, Reply { code: 0, found: 0 });
+        deepest = deepest.max(stack.run(|| reply = call(&mut six, &args, &mut out, &mut items)));
         seen[reply.code as usize] += 1;
-
-        let formed = |six: &Six| lent.iter().all(|&kind| TABLES[kind].formed(&six[kind]));
-        let earned = earns(&args).into_iter().chain([place.earns(out.len())]).filter(|&n| n != 0).min();
-        match earned {
-            _ if !formed(&before) => assert_eq!(reply.code, 20, "a table that the judge refuses"),
-            Some(number) => assert_eq!(reply.code, number, "what the arguments earn"),
-            None => assert!(reply.code == 0 || later.contains(&reply.code), "{reply:?} is no number of this call"),
-        }
-        let written = items != WORD || out.iter().any(|&b| b != UNTOUCHED);
-        if reply.code != 0 || reply.found == 0 {
-            assert!(reply.found == 0 && !written, "{reply:?}, and a lent place was written");
-        }
-        if reply.code == 8 && later == RECOVER {
-            assert!(six[1..] == before[1..] && formed(&six), "recover's 8 changes a volume alone");
-        } else if reply.code != 0 {
-            assert!(six == before, "{reply:?}, and a table was changed");
-        } else {
-            assert!(reply.found <= 1 && formed(&six), "done, and a table is not in form");
-            assert!(six.iter().zip(&before).all(|(now, before)| now.len() == before.len()));
-        }
-        if let (Place::List(size), 0) = (place, reply.code) {
-            let filled = items as usize * size;
-            assert!(filled <= out.len() && out[filled..].iter().all(|&b| b == UNTOUCHED), "past the answer a list stays");
-        }
+        let made = Made { lent, place, before, after: six, out, items, reply };
+        made.check_number(earns(&args), later);
+        made.check_lent(later == RECOVER);
     }
     assert!(seen[0] > 0 && seen[20] > 0, "numbers that came: {seen:?}");
     assert!(deepest <= DEEPEST, "{deepest} bytes of stack");
@@ -371,5 +392,19 @@ fn prepare() {
     let earns = |a: &Args| vec![zero(a.lsn), zero(a.end)];
     hold(&[VOLUMES, COMMITS], Place::None, &[4, 9, 11, 12, 13], earns, |[v, _, c, ..], a, _, _| {
         plain::prepare(v, c, &a.vid, a.lsn, a.end, &a.hash)
+    });
+}
+
+#[test]
+fn success() {
+    hold(&[VOLUMES, COMMITS, CHECKPOINTS, INDEX], Place::None, &[4, 10, 14, 15, 19], commit, |[v, _, c, k, i, _], a, _, _| {
+        plain::success(v, c, k, i, &a.vid, &a.commit)
+    });
+}
+
+#[test]
+fn recover() {
+    hold(&[VOLUMES, COMMITS, CHECKPOINTS, INDEX], Place::None, RECOVER, none, |[v, _, c, k, i, _], a, _, _| {
+        plain::recover(v, c, k, i, &a.vid)
     });
 }

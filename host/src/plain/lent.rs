@@ -109,3 +109,13 @@ pub fn sync(volumes: &mut [u8], commits: &[u8], vid: &[u8; 16]) -> Reply {
 pub fn prepare(volumes: &mut [u8], commits: &[u8], vid: &[u8; 16], local: u64, commit: u64, hash: &[u8; 32]) -> Reply {
     unsafe { raw::sigatuda_prepare(volumes.as_mut_ptr(), volumes.len(), commits.as_ptr(), commits.len(), vid, local, commit, hash) }
 }
+
+/// The pending commit was taken: writes it, and makes it the sync point: 20, 1, 3, 4, 10, 14, 15, 19.
+pub fn success(volumes: &mut [u8], commits: &mut [u8], checkpoints: &mut [u8], index: &mut [u8], vid: &[u8; 16], commit: &[u8]) -> Reply {
+    unsafe { raw::sigatuda_success(volumes.as_mut_ptr(), volumes.len(), commits.as_mut_ptr(), commits.len(), checkpoints.as_mut_ptr(), checkpoints.len(), index.as_mut_ptr(), index.len(), vid, commit.as_ptr(), commit.len()) }
+}
+
+/// Ends a pending commit by what is stored at its place in the remote log: 20, 4, 8 (and the pending commit is dropped), 19.
+pub fn recover(volumes: &mut [u8], commits: &mut [u8], checkpoints: &mut [u8], index: &mut [u8], vid: &[u8; 16]) -> Reply {
+    unsafe { raw::sigatuda_recover(volumes.as_mut_ptr(), volumes.len(), commits.as_mut_ptr(), commits.len(), checkpoints.as_mut_ptr(), checkpoints.len(), index.as_mut_ptr(), index.len(), vid) }
+}

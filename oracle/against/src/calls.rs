@@ -14,7 +14,7 @@ macro_rules! calls {
         pub enum Op { $($op),* }
 
         impl Op {
-            pub const ALL: &'static [Op] = &[Op::VolumeRead, Op::VolumeExists, Op::VolumeDelete, Op::Drop, Op::TagRead, Op::TagExists, Op::TagDelete, Op::TagReplace, Op::CommitRead, Op::LatestCommit, Op::LatestLsn, Op::PageCount, Op::PagePresent, Op::PageMark, Op::PageRemove, Op::PagesRemove, Op::Snapshot, Op::LatestCheck, Op::WriteCommit, Op::Sync, Op::Prepare];
+            pub const ALL: &'static [Op] = &[Op::VolumeRead, Op::VolumeExists, Op::VolumeDelete, Op::Drop, Op::TagRead, Op::TagExists, Op::TagDelete, Op::TagReplace, Op::CommitRead, Op::LatestCommit, Op::LatestLsn, Op::PageCount, Op::PagePresent, Op::PageMark, Op::PageRemove, Op::PagesRemove, Op::Snapshot, Op::LatestCheck, Op::WriteCommit, Op::Sync, Op::Prepare, Op::Success, Op::Recover];
 
             pub fn name(self) -> &'static str {
                 match self { $(Op::$op => $name),* }
@@ -204,8 +204,8 @@ fn run_write(op: Op, a: &Args, tables: &mut Six, out: &mut [u8]) -> Reply {
         Op::Save => unreachable!("not exported yet"),
         Op::Sync => plain::sync(v, c, &a.vid),
         Op::Prepare => plain::prepare(v, c, &a.vid, a.lsn, a.end, &a.hash),
-        Op::Success => unreachable!("not exported yet"),
-        Op::Recover => unreachable!("not exported yet"),
+        Op::Success => plain::success(v, c, k, i, &a.vid, &a.commit),
+        Op::Recover => plain::recover(v, c, k, i, &a.vid),
         Op::FromSnapshot => unreachable!("not exported yet"),
         Op::FromLogref => unreachable!("not exported yet"),
         _ => unreachable!(),
