@@ -77,8 +77,8 @@ pub trait ByteForm: Sized {
     }
 }
 
-/// The largest form: a commit's.
-const LARGEST: usize = 722;
+/// The largest form: a walk item's.
+pub(crate) const LARGEST: usize = 1003;
 
 /// Reads a value from its one byte form: bytes that the value would not be written as are 3.
 pub(crate) fn read_exact<T: ByteForm>(bytes: &[u8]) -> Result<T, Refusal> {

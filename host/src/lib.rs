@@ -14,6 +14,7 @@
 extern crate alloc;
 
 mod bytes;
+mod calls;
 mod ids;
 mod list;
 mod numbers;
@@ -29,6 +30,7 @@ mod snapshot;
 mod tables;
 
 pub use bytes::ByteForm;
+pub use calls::{Asked, Entries, NewVolume};
 pub use ids::{CommitHash, LogId, SegmentId, VolumeId};
 pub use list::List;
 pub use numbers::{Lsn, PageCount, PageIdx};
@@ -38,6 +40,6 @@ pub use pageset::{PageSet, Window};
 pub use raw::Reply;
 pub use records::{Checkpoint, Commit, IndexEntry, PendingCommit, PresentPage, Record, SyncPoint, Tag, Volume};
 pub use refusal::Refusal;
-pub use segment::{Frame, Segment, SegmentRange};
+pub use segment::{Frame, Segment, SegmentRange, WalkItem};
 pub use snapshot::{LogRange, Snapshot, changes};
 pub use tables::{Checkpoints, Commits, Index, Presence, Table, Tables, Tags, Volumes};

@@ -1,4 +1,5 @@
 //! LSNs, page numbers and page counts, kept apart by their types.
+use crate::bytes::{ByteForm, Reader};
 use crate::{Refusal, plain};
 
 /// An LSN: 1 to 2^64-1.
@@ -61,6 +62,19 @@ impl Lsn {
 impl Default for Lsn {
     fn default() -> Self {
         Self::FIRST
+    }
+}
+
+/// An entry of a list of LSNs: not complemented.
+impl ByteForm for Lsn {
+    const SIZE: usize = 8;
+
+    fn write(&self, out: &mut [u8]) {
+        out.copy_from_slice(&self.0.to_be_bytes());
+    }
+
+    fn read(bytes: &[u8]) -> Result<Self, Refusal> {
+        Lsn::new(Reader(bytes).u64())
     }
 }
 

@@ -8,6 +8,9 @@
 
 use crate::raw::{self, Part, Reply};
 
+mod lent;
+pub use lent::*;
+
 /// The LSN after `n`: 1 for LSN 0, 18 for the last.
 pub fn lsn_next(n: u64, out: &mut u64) -> Reply {
     unsafe { raw::sigatuda_lsn_next(n, out) }

@@ -58,13 +58,42 @@ unsafe extern "C" {
     pub(crate) fn sigatuda_snapshot_new(log: *const [u8; 16], start: u64, end: u64, count: u32, out: *mut u8, out_len: usize) -> Reply;
     pub(crate) fn sigatuda_snapshot_append(snapshot: *const u8, snapshot_len: usize, log: *const [u8; 16], start: u64, end: u64, out: *mut u8, out_len: usize) -> Reply;
     pub(crate) fn sigatuda_snapshot_head(snapshot: *const u8, snapshot_len: usize, log: *mut [u8; 16], lsn: *mut u64) -> Reply;
-    // tables
+    // the check of a table
     pub(crate) fn sigatuda_volumes_formed(volumes: *const u8, volumes_len: usize) -> Reply;
     pub(crate) fn sigatuda_tags_formed(tags: *const u8, tags_len: usize) -> Reply;
     pub(crate) fn sigatuda_commits_formed(commits: *const u8, commits_len: usize) -> Reply;
     pub(crate) fn sigatuda_checkpoints_formed(checkpoints: *const u8, checkpoints_len: usize) -> Reply;
     pub(crate) fn sigatuda_index_formed(index: *const u8, index_len: usize) -> Reply;
     pub(crate) fn sigatuda_presence_formed(presence: *const u8, presence_len: usize) -> Reply;
+    // over tables: volumes
+    pub(crate) fn sigatuda_volume_read(volumes: *const u8, volumes_len: usize, vid: *const [u8; 16], out: *mut u8, out_len: usize) -> Reply;
+    pub(crate) fn sigatuda_volume_exists(volumes: *const u8, volumes_len: usize, vid: *const [u8; 16]) -> Reply;
+    pub(crate) fn sigatuda_volume_delete(volumes: *mut u8, volumes_len: usize, vid: *const [u8; 16]) -> Reply;
+    pub(crate) fn sigatuda_drop(volumes: *mut u8, volumes_len: usize, vid: *const [u8; 16]) -> Reply;
+    // over tables: tags
+    pub(crate) fn sigatuda_tag_read(tags: *const u8, tags_len: usize, name: *const u8, name_len: usize, vid: *mut [u8; 16]) -> Reply;
+    pub(crate) fn sigatuda_tag_exists(tags: *const u8, tags_len: usize, name: *const u8, name_len: usize) -> Reply;
+    pub(crate) fn sigatuda_tag_delete(tags: *mut u8, tags_len: usize, name: *const u8, name_len: usize) -> Reply;
+    pub(crate) fn sigatuda_tag_replace(tags: *mut u8, tags_len: usize, name: *const u8, name_len: usize, vid: *const [u8; 16], earlier: *mut [u8; 16]) -> Reply;
+    // over tables: commits
+    pub(crate) fn sigatuda_commit_read(commits: *const u8, commits_len: usize, log: *const [u8; 16], lsn: u64, out: *mut u8, out_len: usize) -> Reply;
+    pub(crate) fn sigatuda_latest_commit(commits: *const u8, commits_len: usize, log: *const [u8; 16], out: *mut u8, out_len: usize) -> Reply;
+    pub(crate) fn sigatuda_latest_lsn(commits: *const u8, commits_len: usize, log: *const [u8; 16], lsn: *mut u64) -> Reply;
+    pub(crate) fn sigatuda_page_count(commits: *const u8, commits_len: usize, log: *const [u8; 16], lsn: u64, count: *mut u32) -> Reply;
+    pub(crate) fn sigatuda_write_commit(commits: *mut u8, commits_len: usize, checkpoints: *mut u8, checkpoints_len: usize, index: *mut u8, index_len: usize, commit: *const u8, commit_len: usize) -> Reply;
+    // over tables: present pages
+    pub(crate) fn sigatuda_page_present(presence: *const u8, presence_len: usize, sid: *const [u8; 16], page: u32) -> Reply;
+    pub(crate) fn sigatuda_page_mark(presence: *mut u8, presence_len: usize, sid: *const [u8; 16], page: u32) -> Reply;
+    pub(crate) fn sigatuda_page_remove(presence: *mut u8, presence_len: usize, sid: *const [u8; 16], page: u32) -> Reply;
+    pub(crate) fn sigatuda_pages_remove(presence: *mut u8, presence_len: usize, sid: *const [u8; 16], first: u32, last: u32) -> Reply;
+    // over tables: snapshots
+    pub(crate) fn sigatuda_snapshot(volumes: *const u8, volumes_len: usize, commits: *const u8, commits_len: usize, vid: *const [u8; 16], out: *mut u8, out_len: usize) -> Reply;
+    pub(crate) fn sigatuda_latest_check(volumes: *const u8, volumes_len: usize, commits: *const u8, commits_len: usize, vid: *const [u8; 16], snapshot: *const u8, snapshot_len: usize) -> Reply;
+    // over tables: saving and sending
+    pub(crate) fn sigatuda_sync(volumes: *mut u8, volumes_len: usize, commits: *const u8, commits_len: usize, vid: *const [u8; 16]) -> Reply;
+    pub(crate) fn sigatuda_prepare(volumes: *mut u8, volumes_len: usize, commits: *const u8, commits_len: usize, vid: *const [u8; 16], local: u64, commit: u64, hash: *const [u8; 32]) -> Reply;
+    pub(crate) fn sigatuda_success(volumes: *mut u8, volumes_len: usize, commits: *mut u8, commits_len: usize, checkpoints: *mut u8, checkpoints_len: usize, index: *mut u8, index_len: usize, vid: *const [u8; 16], commit: *const u8, commit_len: usize) -> Reply;
+    pub(crate) fn sigatuda_recover(volumes: *mut u8, volumes_len: usize, commits: *mut u8, commits_len: usize, checkpoints: *mut u8, checkpoints_len: usize, index: *mut u8, index_len: usize, vid: *const [u8; 16]) -> Reply;
     // the integrator
     pub(crate) fn sigatuda_format() -> u32;
     pub(crate) fn sigatuda_record_size(table: u32) -> u32;

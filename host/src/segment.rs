@@ -1,6 +1,6 @@
 //! Segments, their frames, and ranges of their bytes.
 use crate::bytes::{ByteForm, Reader, Writer, byte_form};
-use crate::{List, PageIdx, PageSet, Refusal, SegmentId, plain};
+use crate::{List, LogId, Lsn, PageIdx, PageSet, Refusal, SegmentId, plain};
 
 /// A frame of a segment: it runs for its size, and up to its last page.
 #[derive(Clone, Copy, Debug, Default, PartialEq, Eq)]
@@ -144,5 +144,38 @@ impl SegmentRange {
             return Ok(None);
         }
         SegmentRange::from_bytes(&out).map(Some)
+    }
+}
+
+/// What a commit gives a snapshot's reader: the pages that no earlier commit of the path gave.
+#[derive(Clone, Copy, Debug, Default, PartialEq, Eq)]
+pub struct WalkItem {
+    /// The commit's log.
+    pub log: LogId,
+    /// Its LSN.
+    pub lsn: Lsn,
+    /// Its segment, with all its pages and frames.
+    pub segment: Segment,
+    /// The pages that it gives, never none.
+    pub gift: PageSet,
+}
+
+byte_form!(WalkItem, 1003);
+
+impl ByteForm for WalkItem {
+    const SIZE: usize = 1003;
+
+    fn write(&self, out: &mut [u8]) {
+        let mut w = Writer(out);
+        w.put(&self.log.0);
+        w.put(&self.lsn.get().to_be_bytes());
+        w.put(&self.segment.to_bytes());
+        w.put(&self.gift.to_bytes());
+    }
+
+    fn read(bytes: &[u8]) -> Result<Self, Refusal> {
+        let mut r = Reader(bytes);
+        let (log, lsn) = (LogId(r.array()), Lsn::new(r.u64())?);
+        Ok(WalkItem { log, lsn, segment: Segment::from_bytes(r.bytes(Segment::SIZE))?, gift: PageSet::from_bytes(r.bytes(PageSet::SIZE))? })
     }
 }

@@ -1,6 +1,6 @@
 //! The six tables, in bytes that the caller lends. A type for each keeps them from being swapped, and Rust's borrows keep them apart.
-use crate::{Refusal, plain};
 use crate::records::{Checkpoint, Commit, IndexEntry, PresentPage, Record, Tag, Volume};
+use crate::{Refusal, plain};
 use core::marker::PhantomData;
 
 /// A lent table of one kind of record: two bytes of count, then the records in the order of their keys. Two zero bytes, or more, are
@@ -82,6 +82,11 @@ impl<'a, R: Record> Table<'a, R> {
 
     /// Its bytes.
     pub fn as_bytes(&self) -> &[u8] {
+        self.bytes
+    }
+
+    /// Its bytes, for a call that writes.
+    pub(crate) fn as_mut_bytes(&mut self) -> &mut [u8] {
         self.bytes
     }
 }

@@ -4,8 +4,10 @@
 mod ops;
 #[path = "sample/run.rs"]
 mod run;
+mod stack;
 
 use ops::Record;
+use std::collections::BTreeMap;
 
 #[test]
 fn the_originals_answers() {
@@ -30,4 +32,22 @@ fn the_originals_answers() {
         assert!(of_each[usize::from(*op)] > 0, "the sample has no {name}");
     }
     println!("{records} records equal");
+}
+
+/// The most bytes of stack that a call uses: 8 KiB, and 24 for a frame list, whose sixteen ranges are one value.
+#[test]
+fn the_depth_of_each_call() {
+    let mut rest = &include_bytes!("../../crates/replay/data/sample.bin")[..];
+    let (mut stack, mut deepest) = (stack::Stack::new(), BTreeMap::new());
+    while let Some(record) = Record::read(&mut rest) {
+        let mut out = vec![0; record.out.len()];
+        let depth = stack.run(|| _ = run::run(record.op, &record.args, &mut out));
+        let most = deepest.entry(record.op).or_insert(0);
+        *most = depth.max(*most);
+    }
+    for (op, depth) in deepest {
+        let lists = op == ops::FRAME_LIST || op == ops::FRAME_LIST_OF_4;
+        println!("{:24}{depth:6} bytes of stack", ops::name(op));
+        assert!(depth <= if lists { 24 * 1024 } else { 8 * 1024 }, "{}: {depth}", ops::name(op));
+    }
 }

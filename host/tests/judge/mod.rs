@@ -99,6 +99,18 @@ fn commit(b: &[u8]) -> bool {
     b[0] == 0 && !u64_at(b, 17) != 0 && there_or_zero(b, 29, 62) && segment && checkpoints
 }
 
+/// A commit as an argument: 1 for an LSN 0, its own or one of the listed that have a place; 3 for any other fault. Of other bytes than 722 nothing is looked at.
+pub fn commit_argument(b: &[u8]) -> u32 {
+    if b.len() != 722 {
+        return 3;
+    }
+    let looked = usize::from(b[657].min(8));
+    if !u64_at(b, 17) == 0 || (0..looked).any(|i| u64_at(b, 658 + 8 * i) == 0) {
+        return 1;
+    }
+    if commit(b) { 0 } else { 3 }
+}
+
 fn checkpoint(b: &[u8]) -> bool {
     b[0] == 0 && !u64_at(b, 17) != 0
 }

@@ -1,7 +1,14 @@
 //! against [N] [SEED]: the archive and the original, asked the same, and every answer compared. N random calls after all those on small
-//! domains. The exit status is 0 exactly if there is no difference.
+//! domains, then N calls over tables in histories. The exit status is 0 exactly if there is no difference.
+mod asked;
+mod calls;
+mod draw;
+mod earned;
+mod histories;
+#[path = "../../../host/tests/judge/mod.rs"]
+#[allow(dead_code)]
+mod judge;
 mod pure;
-#[allow(dead_code)] // for the calls over tables, which the archive does not export yet
 mod tables;
 mod tally;
 
@@ -11,6 +18,12 @@ fn main() -> std::process::ExitCode {
     let (n, seed) = (number(200_000), number(1));
     harness::original::keep_panics();
     let mut tally = tally::Tally::new();
-    pure::compare(n, seed, &mut tally);
-    if tally.end() { std::process::ExitCode::SUCCESS } else { std::process::ExitCode::FAILURE }
+    let ran = std::panic::catch_unwind(std::panic::AssertUnwindSafe(|| {
+        let _ = pure::compare;
+        histories::compare(n, seed, &mut tally);
+    }));
+    if ran.is_err() {
+        eprintln!("{}", harness::original::PANIC.take());
+    }
+    if tally.end() && ran.is_ok() { std::process::ExitCode::SUCCESS } else { std::process::ExitCode::FAILURE }
 }

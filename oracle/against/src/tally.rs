@@ -9,15 +9,13 @@ pub struct Tally {
     pub compared: u64,
     pub apart: u64,
     pub differences: u64,
-    numbers: BTreeMap<u32, u64>,
-    calls: BTreeMap<&'static str, u64>,
+    calls: BTreeMap<&'static str, BTreeMap<u32, u64>>,
     said: Instant,
 }
 
 impl Tally {
     pub fn new() -> Self {
-        let (numbers, calls) = (BTreeMap::new(), BTreeMap::new());
-        Tally { compared: 0, apart: 0, differences: 0, numbers, calls, said: Instant::now() }
+        Tally { compared: 0, apart: 0, differences: 0, calls: BTreeMap::new(), said: Instant::now() }
     }
 
     /// Counts a call that the original cannot be asked, or answers otherwise on purpose.
@@ -28,8 +26,7 @@ impl Tally {
     /// Counts a call, and the difference where there is one.
     pub fn count(&mut self, call: &'static str, number: u32, difference: Option<String>) {
         self.compared += 1;
-        *self.numbers.entry(number).or_default() += 1;
-        *self.calls.entry(call).or_default() += 1;
+        *self.calls.entry(call).or_default().entry(number).or_default() += 1;
         if let Some(words) = difference {
             self.differences += 1;
             if self.differences <= SHOWN {
@@ -42,13 +39,18 @@ impl Tally {
         }
     }
 
-    /// The counts, and whether all were equal.
+    /// The counts, for each call by number, and whether all were equal.
     pub fn end(&self) -> bool {
-        for (call, count) in &self.calls {
-            println!("{call:20} {count}");
+        let shown = |numbers: &BTreeMap<u32, u64>| {
+            let numbers: Vec<_> = numbers.iter().map(|(number, count)| format!("{number} ({count})")).collect();
+            numbers.join(" ")
+        };
+        let mut all: BTreeMap<u32, u64> = BTreeMap::new();
+        for (call, numbers) in &self.calls {
+            println!("{call:22} {:9}: {}", numbers.values().sum::<u64>(), shown(numbers));
+            numbers.iter().for_each(|(number, count)| *all.entry(*number).or_default() += count);
         }
-        let numbers: Vec<_> = self.numbers.iter().map(|(number, count)| format!("{number} ({count})")).collect();
-        println!("numbers reached: {}", numbers.join(" "));
+        println!("numbers reached: {}", shown(&all));
         println!("not compared: {}", self.apart);
         println!("{} calls compared, {} differences", self.compared, self.differences);
         self.compared > 0 && self.differences == 0

@@ -14,7 +14,8 @@ use std::cell::RefCell;
 use std::panic::{AssertUnwindSafe, catch_unwind};
 
 thread_local! {
-    static PANIC: RefCell<String> = const { RefCell::new(String::new()) };
+    /// The words of the last panic.
+    pub static PANIC: RefCell<String> = const { RefCell::new(String::new()) };
 }
 
 /// Keeps a panic's words instead of printing them. To be called once.
@@ -59,7 +60,7 @@ fn or_22(form: Option<Vec<u8>>) -> Option<Answer> {
 }
 
 /// The number of the panic that was kept.
-fn panic_number(words: &str) -> Option<u8> {
+pub fn panic_number(words: &str) -> Option<u8> {
     let numbers = [
         ("LSN must be non-zero", 1),
         ("no page 0", 1),

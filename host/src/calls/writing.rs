@@ -1,0 +1,30 @@
+//! Calls that make volumes and commits.
+use super::{NewVolume, done, written};
+use crate::{Commit, LogId, PageCount, PageSet, Refusal, SegmentId, Snapshot, Tables, Volume, VolumeId, plain};
+
+/// What a caller asks of the volume that is opened; a spare stands in for each part that is not asked.
+#[derive(Clone, Copy, Debug, Default, PartialEq, Eq)]
+pub struct Asked {
+    /// The volume.
+    pub vid: Option<VolumeId>,
+    /// Its local log.
+    pub local: Option<LogId>,
+    /// Its remote log.
+    pub remote: Option<LogId>,
+}
+
+/// An identifier as it crosses: a flag, and its bytes or any.
+fn flagged(id: Option<[u8; 16]>) -> (u32, [u8; 16]) {
+    (u32::from(id.is_some()), id.unwrap_or_default())
+}
+
+/// Calls that make volumes and commits.
+impl Tables<'_> {
+
+    /// Stores a commit in the place of any at its log and LSN, with its checkpoints and an index entry for each page; all or nothing, in commits,
+    /// checkpoints and index: 20, 3, 19.
+    pub fn write_commit(&mut self, commit: &Commit) -> Result<(), Refusal> {
+        let (commits, checkpoints, index) = (self.commits.as_mut_bytes(), self.checkpoints.as_mut_bytes(), self.index.as_mut_bytes());
+        done(plain::write_commit(commits, checkpoints, index, &commit.to_bytes()))
+    }
+}

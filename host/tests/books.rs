@@ -1,0 +1,165 @@
+//! The calls over tables, by types: document 01's bench readings and its example, each number once where a caller meets it, and what stays.
+use sigatuda::*;
+
+fn page(n: u32) -> PageIdx {
+    PageIdx::new(n).unwrap()
+}
+
+fn lsn(n: u64) -> Lsn {
+    Lsn::new(n).unwrap()
+}
+
+fn pages(of: &[u32]) -> PageSet {
+    PageSet::of(of.iter().map(|&n| page(n))).unwrap()
+}
+
+const fn id(n: u8) -> [u8; 16] {
+    let mut id = [0; 16];
+    id[15] = n;
+    id
+}
+
+const VID: VolumeId = VolumeId(id(1));
+const LOCAL: LogId = LogId(id(10));
+const REMOTE: LogId = LogId(id(11));
+
+/// The capacities of document 01's call list program.
+fn books() -> OwnedTables {
+    OwnedTables::new(Capacities { volumes: 4, tags: 4, commits: 32, checkpoints: 32, index: 512, presence: 512 })
+}
+
+/// A table of one record, with room for three more.
+fn table_of<R: Record>(record: &R) -> OwnedTable<R> {
+    let mut bytes = vec![0; 2 + 4 * R::SIZE];
+    bytes[1] = 1;
+    record.to_slice(&mut bytes[2..2 + R::SIZE]).unwrap();
+    OwnedTable::from_bytes(bytes)
+}
+
+fn volume(sync: Option<SyncPoint>, pending: Option<PendingCommit>) -> Volume {
+    Volume { vid: VID, local: LOCAL, remote: REMOTE, sync, pending }
+}
+
+fn commit(log: LogId, at: u64, of: &[u32]) -> Commit {
+    let segment = Segment { sid: SegmentId(id(at as u8)), pages: pages(of), frames: List::new() };
+    Commit { log, lsn: lsn(at), count: PageCount(9), hash: None, segment: Some(segment), checkpoints: List::new() }
+}
+
+fn synced(remote: u64, watermark: Option<u64>) -> Option<SyncPoint> {
+    Some(SyncPoint { remote: lsn(remote), watermark: watermark.map(lsn) })
+}
+
+fn range(log: LogId, start: u64, end: u64) -> LogRange {
+    LogRange { log, start: lsn(start), end: lsn(end) }
+}
+
+/// P10, P11 and P12, and what the latest check says of each.
+#[test]
+fn bench_readings_of_snapshots() {
+    let mut tables = OwnedTables { volumes: table_of(&volume(synced(7, Some(3)), None)), ..books() };
+    let mut t = tables.lend();
+    t.write_commit(&commit(LOCAL, 3, &[1])).unwrap();
+    assert_eq!(t.snapshot(VID), Ok(Snapshot::default()), "P12");
+    assert_eq!(t.is_latest(VID, &Snapshot::default()), Ok(false));
+    t.write_commit(&commit(REMOTE, 7, &[1])).unwrap();
+    let remote = Snapshot { count: PageCount(9), path: List::from_slice(&[range(REMOTE, 1, 7)]).unwrap() };
+    assert_eq!(t.snapshot(VID), Ok(remote), "P11");
+    t.write_commit(&commit(LOCAL, 5, &[1])).unwrap();
+    let both = Snapshot { path: List::from_slice(&[range(LOCAL, 4, 5), range(REMOTE, 1, 7)]).unwrap(), ..remote };
+    assert_eq!(t.snapshot(VID), Ok(both), "P10");
+    assert_eq!(t.is_latest(VID, &both), Ok(true));
+    assert_eq!(t.is_latest(VolumeId(id(2)), &both), Err(Refusal::NoVolume));
+}
+
+#[test]
+fn volumes() {
+    let pending = Some(PendingCommit { local: lsn(2), commit: lsn(8), hash: CommitHash([5; 32]) });
+    let mut tables = OwnedTables { volumes: table_of(&volume(synced(7, None), pending)), ..books() };
+    let mut t = tables.lend();
+    assert_eq!(t.volumes.read(VID), Ok(volume(synced(7, None), pending)));
+    assert_eq!(t.volumes.drop_pending(VID), Ok(()));
+    assert_eq!(t.volumes.read(VID), Ok(volume(synced(7, None), None)));
+    assert_eq!((t.volumes.exists(VID), t.volumes.delete(VID), t.volumes.exists(VID)), (Ok(true), Ok(()), Ok(false)));
+    assert_eq!((t.volumes.read(VID), t.volumes.drop_pending(VID)), (Err(Refusal::NoVolume), Err(Refusal::NoVolume)));
+    assert_eq!(t.volumes.delete(VID), Ok(()), "a removal succeeds when nothing is there");
+}
+
+#[test]
+fn tags() {
+    let mut tables = books();
+    let tags = &mut tables.lend().tags;
+    assert_eq!(tags.replace(b"a", VID), Ok(None));
+    assert_eq!(tags.replace(b"a\0", VolumeId(id(2))), Ok(None), "two names");
+    assert_eq!(tags.replace(b"a", VolumeId(id(3))), Ok(Some(VID)));
+    assert_eq!((tags.read(b"a"), tags.exists(b"b")), (Ok(Some(VolumeId(id(3)))), Ok(false)));
+    assert_eq!((tags.replace(b"b", VID), tags.replace(b"c", VID), tags.replace(b"d", VID)), (Ok(None), Ok(None), Err(Refusal::NoRoom)));
+    assert_eq!((tags.delete(b"a"), tags.delete(b"a"), tags.read(b"a")), (Ok(()), Ok(()), Ok(None)));
+    assert_eq!(tags.replace(b"d", VID), Ok(None), "room freed by a removal is used again");
+    assert_eq!((tags.read(b""), tags.delete(&[0; 33])), (Err(Refusal::Zero), Err(Refusal::Zero)));
+}
+
+#[test]
+fn commits() {
+    let mut tables = books();
+    let mut t = tables.lend();
+    let (first, second) = (commit(LOCAL, 1, &[1, 2]), Commit { checkpoints: List::from_slice(&[lsn(1), lsn(2)]).unwrap(), ..commit(LOCAL, 2, &[2]) });
+    assert_eq!((t.write_commit(&first), t.write_commit(&second)), (Ok(()), Ok(())));
+    assert_eq!((t.commits.read(LOCAL, lsn(1)), t.commits.latest(LOCAL)), (Ok(Some(first)), Ok(Some(second))));
+    assert_eq!((t.commits.latest_lsn(LOCAL), t.commits.latest_lsn(REMOTE)), (Ok(Some(lsn(2))), Ok(None)));
+    assert_eq!((t.commits.page_count(LOCAL, lsn(2)), t.commits.page_count(LOCAL, lsn(3))), (Ok(Some(PageCount(9))), Ok(None)));
+    let held = (t.commits.held(), t.checkpoints.held(), t.index.held());
+    assert_eq!(held, (Some(2), Some(2), Some(3)));
+    let wide = Commit { segment: Some(Segment { pages: PageSet::range(page(1), page(511)).unwrap(), ..Segment::default() }), ..second };
+    assert_eq!(t.write_commit(&wide), Err(Refusal::NoRoom), "510 new entries beside 3 held");
+    assert_eq!((t.commits.held(), t.checkpoints.held(), t.index.held()), held);
+}
+
+#[test]
+fn sync_and_prepare() {
+    let mut tables = OwnedTables { volumes: table_of(&volume(None, None)), ..books() };
+    let mut t = tables.lend();
+    assert_eq!(t.sync(VID), Ok(()), "no remote changes");
+    t.write_commit(&commit(REMOTE, 4, &[1])).unwrap();
+    assert_eq!(t.sync(VID), Ok(()));
+    assert_eq!(t.volumes.read(VID), Ok(volume(synced(4, None), None)));
+    let pending = |at| PendingCommit { local: lsn(1), commit: lsn(at), hash: CommitHash([1; 32]) };
+    assert_eq!(t.prepare(VID, pending(4)), Err(Refusal::NotNext));
+    assert_eq!(t.prepare(VID, PendingCommit { hash: CommitHash::ZERO, ..pending(5) }), Err(Refusal::ZeroHash));
+    assert_eq!((t.prepare(VID, pending(5)), t.prepare(VID, pending(5))), (Ok(()), Err(Refusal::Pending)));
+    t.write_commit(&commit(REMOTE, 5, &[1])).unwrap();
+    t.write_commit(&commit(LOCAL, 1, &[1])).unwrap();
+    assert_eq!(t.sync(VID), Err(Refusal::Diverged));
+}
+
+#[test]
+fn present_pages() {
+    let (mut tables, sid) = (books(), SegmentId(id(7)));
+    let presence = &mut tables.lend().presence;
+    for n in [1, 2, 3, 3] {
+        assert_eq!(presence.mark(sid, page(n)), Ok(()));
+    }
+    assert_eq!((presence.held(), presence.has(sid, page(2)), presence.has(sid, page(4))), (Some(3), Ok(true), Ok(false)));
+    assert_eq!((presence.remove_range(sid, page(1), page(2)), presence.remove(sid, page(9))), (Ok(()), Ok(())));
+    assert_eq!(presence.records().collect::<Result<Vec<_>, _>>(), Ok(vec![PresentPage { sid, page: page(3) }]));
+    assert_eq!(presence.remove_range(sid, page(3), page(2)), Err(Refusal::Reversed));
+}
+
+/// Identifiers that nothing has.
+const SPARE: NewVolume = NewVolume { vid: VolumeId(id(21)), local: LogId(id(22)), remote: LogId(id(23)) };
+
+#[test]
+fn success_and_recovery() {
+    let mut tables = OwnedTables { volumes: table_of(&volume(None, None)), ..books() };
+    let mut t = tables.lend();
+    let hash = CommitHash([1; 32]);
+    let pending = PendingCommit { local: lsn(3), commit: lsn(1), hash };
+    let sent = Commit { hash: Some(hash), ..commit(REMOTE, 1, &[1]) };
+    assert_eq!((t.success(VID, &sent), t.recover(VID)), (Err(Refusal::NonePending), Ok(())));
+    t.prepare(VID, pending).unwrap();
+    assert_eq!(t.success(VID, &Commit { hash: None, ..sent }), Err(Refusal::NotThePending));
+    assert_eq!((t.success(VID, &sent), t.volumes.read(VID)), (Ok(()), Ok(volume(synced(1, Some(3)), None))));
+    t.prepare(VID, PendingCommit { local: lsn(4), commit: lsn(2), ..pending }).unwrap();
+    t.write_commit(&commit(REMOTE, 2, &[1])).unwrap();
+    assert_eq!(t.recover(VID), Err(Refusal::Diverged), "another's commit is there");
+    assert_eq!(t.volumes.read(VID), Ok(volume(synced(1, Some(3)), None)), "and the pending one is dropped");
+}
