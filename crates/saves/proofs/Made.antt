@@ -28,11 +28,10 @@ use Rattle.commit.specs.declared.Presence.the-variants.{Missing, Given}
 use Rattle.commit.specs.declared.Commit.{Commit}
 use Rattle.setbytes.proofs.LaidLaws.{laid-says, shown-form}
 use Rattle.commit.specs.Says.{commitSays}
-use Rattle.layout.specs.Codecs.{Codec, inForm}
+use Rattle.layout.specs.Codecs.{Codec}
 use Rattle.layout.specs.Records.{commitBytes}
-use Rattle.layout.proofs.HoldLaws.{held-form}
 use Rattle.entries.proofs.RowForms.{present-formed}
-use Rattle.rows.proofs.Rows.{Layout, long-is}
+use Rattle.rows.proofs.Rows.{long-is}
 use Rattle.rows.proofs.Tables.{commits}
 use Rattle.commitbytes.specs.Laid.{lsnsLaid, commitLaid}
 use Rattle.commitbytes.proofs.Trips.{commit-says}
@@ -89,10 +88,7 @@ module _ (v : R.Commit) (c : Commit) (e : c ≡ commitLaid v) where
   made-laid = ap commitLaid says ∙ sym e
 
   module _ (f : commitForm v ≡ true) (b : List ℕ) (g : b ≡ put 0 (commitBytes .spell (commitSays c)) (replicate 722 0)) where
-    made-bytes : b ≡ commitBytes .spell v
+    pub made-bytes : b ≡ commitBytes .spell v
     made-bytes =
         g ∙ ap (λ (x : R.Commit). put 0 (commitBytes .spell x) (replicate 722 0)) says
         ∙ P.put-all (commitBytes .spell v) (replicate 722 0) (long-is commits v f)
-
-    pub made : (b ≡ commitBytes .spell v) × (inForm commitBytes commitForm b ≡ true)
-    made = (made-bytes, ap (inForm commitBytes commitForm) made-bytes ∙ held-form commitBytes commitForm (commits .holds v f) f)

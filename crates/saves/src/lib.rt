@@ -32,7 +32,6 @@ ghost use Rattle.rules.specs.Tables.{latestLsn, fits};
 ghost use Rattle.rules.specs.Save.{lsnAfter, hasSid, sidInUse, savedCommit, nowPresent};
 ghost use Rattle.volume.specs.Volumes.{volumeSays};
 ghost use Rattle.commitbytes.specs.Laid.{commitLaid};
-ghost use Rattle.layout.specs.Codecs.{inForm};
 ghost use Rattle.layout.specs.Records.{commitBytes, presentBytes};
 ghost use Rattle.layout.specs.Tables.{commitsIn, commitsOk, presenceIn, presenceOk, laidOver};
 ghost use Rattle.presence.specs.Pages.{ofSegment};
@@ -100,7 +99,7 @@ fn commit_made(v: Volume, lsn: Lsn, count: PageCount, sid: SegmentId, set: PageS
     c.with_checkpoints(1, lsns)
 }
 
-// Its bytes, which are in form.
+// Its bytes. (It is in form.)
 pub fn saved_commit(
     v: Volume,
     lsn: Lsn,
@@ -110,7 +109,7 @@ pub fn saved_commit(
 ) -> [u8; 722]
     requires { ⌜ (volumeForm (volumeSays v) ≡ true) × (lsnForm (lsn .0) ≡ true) × (normal set ≡ true) ⌝ }
     ensures { λ r. ⌜ r ≡ commitBytes .spell (savedCommit (volumeSays v) (lsn .0) (count .0) sid (shown set)) ⌝ }
-    ensures { λ r. ⌜ inForm commitBytes commitForm r ≡ true ⌝ }
+    ensures { λ _. ⌜ commitForm (savedCommit (volumeSays v) (lsn .0) (count .0) sid (shown set)) ≡ true ⌝ }
 {
     let c = commit_made(v, lsn, count, sid, set);
     let mut bytes = [0u8; 722];

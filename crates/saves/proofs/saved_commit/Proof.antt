@@ -13,7 +13,7 @@ use Rattle.rules.specs.Save.{savedCommit}
 use Rattle.volume.specs.Volumes.{volumeSays}
 use Rattle.setbytes.proofs.LaidLaws.{shown-form}
 use borrow.Author.Needs.{needs}
-use Rattle.saves.proofs.Made.{saved-form, made-laid, made}
+use Rattle.saves.proofs.Made.{saved-form, made-laid, made-bytes}
 use Rattle.saves.proofs.saved_commit.Statement.{statement}
 use Rattle.saves.proofs.saved_commit.Tie as tie
 
@@ -36,7 +36,7 @@ commit-write-requires : tie.Need-commit-write-requires
 commit-write-requires c κs = (omega arith, made-laid (saved (c .before .before)) (c .before .commit-made .result) (c .before .commit-made .ensures))
 
 returns : tie.Need-returns
-returns c = made (saved (c .before .before .before .before)) (c .before .before .before .commit-made .result) (c .before .before .before .commit-made .ensures) (formed (c .before .before .before .before)) _ (c .before .commit-write .ensures)
+returns c = (made-bytes (saved (c .before .before .before .before)) (c .before .before .before .commit-made .result) (c .before .before .before .commit-made .ensures) (formed (c .before .before .before .before)) _ (c .before .commit-write .ensures), formed (c .before .before .before .before))
 
 pub saved-commit-spec : {M : Type 1} → statement M
 saved-commit-spec =
