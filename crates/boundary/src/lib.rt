@@ -2,6 +2,7 @@
 // answer; what is lent for the answer is written only then.
 pub mod commitcall;
 pub mod forms;
+pub mod listcall;
 pub mod logs;
 pub mod numbers;
 pub mod pagecall;

@@ -14,13 +14,14 @@ ghost use mathlib.Core.Path.{_≡_};
 ghost use Rattle.frames.specs.Rules.{listRule, frameRule, bytesRule, partBytes};
 ghost use lib.ListN.{length};
 ghost use Rattle.boundary.specs.Parts.{partLeft};
-ghost use Rattle.segmentargs.specs.Lists.{listLeft};
+ghost use Rattle.layout.specs.Values.{partBytes as entryForm};
+ghost use Rattle.resultlists.specs.Lists.{roomed, listLeft};
 ghost use Rattle.segmentargs.specs.Segments.{segmentArg, rangeArg, rangeLeft, joinLeft};
 
 // The frames of a segment as a list of ranges, and their number: 3, 19.
 #[no_mangle]
 pub extern "C" fn sigatuda_frame_list(segment: &[u8], list: &mut [u8], items: &mut u32) -> Reply
-    ensures { λ r. ⌜ (r, (now (list .exit), now (items .exit))) ≡ listLeft (now (list .entry)) (now (items .entry)) (listRule (segmentArg (now (segment .entry)))) ⌝ }
+    ensures { λ r. ⌜ (r, (now (list .exit), now (items .exit))) ≡ listLeft entryForm (now (list .entry)) (now (items .entry)) (roomed entryForm (now (list .entry)) (listRule (segmentArg (now (segment .entry))))) ⌝ }
 {
     put_list(frame_list(segment_arg(segment)), list, items)
 }

@@ -1,5 +1,5 @@
 -- A frame list across the boundary: each range fills its 417 bytes, so that the loop stores one run behind the other; and what is left of an answer to the rule. Assumes nothing.
-use Prim.Native.Nat.{ℕ, zero, suc, _+_, _*_, _<_, _≤_}
+use Prim.Native.Nat.{ℕ, zero, suc, _+_, _*_, _/_, _<_, _≤_}
 use mathlib.Core.Path.{_≡_, refl, sym, ap, ap₂, _∙_, subst}
 use mathlib.Core.List.{List, [], _∷_, _++_, append-assoc, append-nil}
 use mathlib.Core.Bool.{Bool, true, false, cond, _&&_}
@@ -33,7 +33,8 @@ use Rattle.arguments.specs.Replies.{none-under, given, value}
 use Rattle.arguments.specs.Args.{argument}
 use Rattle.arguments.proofs.SetLaws.{Early}
 use Rattle.segmentargs.specs.Segments.{notASegment, segmentArg}
-use Rattle.segmentargs.specs.Lists.{rangeSpell, AllFit, roomed, listLeft, listPut}
+use Rattle.resultlists.specs.Lists.{slotsIn, roomed, listLeft}
+use Rattle.segmentargs.specs.Lists.{rangeSpell, AllFit, listPut}
 use Rattle.segmentargs.proofs.SegmentLaws.{range-size, range-long}
 
 -- ---- the loop
@@ -81,21 +82,21 @@ module _ (was : List ℕ) (items : ℕ) (a : FrameList) where
   by : Bool → Bool → Reply × (List ℕ × ℕ)
   by z l = cond z (cond l list (none-under 19, (was, items))) (none-under (a .code), (was, items))
 
-  is-by : (z l : Bool) → eqb (a .code) 0 ≡ z → leb (417 * a .len) (length was) ≡ l → by z l ≡ listPut was items a
+  is-by : (z l : Bool) → eqb (a .code) 0 ≡ z → leb (a .len) (length was / 417) ≡ l → by z l ≡ listPut was items a
   unfolding listPut by
   is-by z l p q = rw (← p, ← q)
 
   pub put-refused : (a .code ≡ 0 → ⊥) → (none-under (a .code), (was, items)) ≡ listPut was items a
   unfolding by
-  put-refused h = is-by false (leb (417 * a .len) (length was)) (ne-eqb (a .code) 0 h) refl
+  put-refused h = is-by false (leb (a .len) (length was / 417)) (ne-eqb (a .code) 0 h) refl
 
-  pub put-short : a .code ≡ 0 → length was < 417 * a .len → (none-under 19, (was, items)) ≡ listPut was items a
+  pub put-short : a .code ≡ 0 → length was / 417 < a .len → (none-under 19, (was, items)) ≡ listPut was items a
   unfolding by
-  put-short h l = is-by true false (eq-eqb (a .code) 0 h) (lt-leb (417 * a .len) (length was) l)
+  put-short h l = is-by true false (eq-eqb (a .code) 0 h) (lt-leb (a .len) (length was / 417) l)
 
-  pub put-list : a .code ≡ 0 → 417 * a .len ≤ length was → list ≡ listPut was items a
+  pub put-list : a .code ≡ 0 → a .len ≤ length was / 417 → list ≡ listPut was items a
   unfolding by
-  put-list h l = is-by true true (eq-eqb (a .code) 0 h) (le-leb (417 * a .len) (length was) l)
+  put-list h l = is-by true true (eq-eqb (a .code) 0 h) (le-leb (a .len) (length was / 417) l)
 
 -- ---- what is left of an answer to the rule
 
@@ -114,7 +115,7 @@ module _ (was : List ℕ) (items : ℕ) where
   held-left true fs = refl
   held-left false fs = refl
 
-  pub left-list : (a : FrameList) (q : Answer (List Part)) → Early q → Lists a q → listPut was items a ≡ listLeft was items q
+  pub left-list : (a : FrameList) (q : Answer (List Part)) → Early q → Lists a q → listPut was items a ≡ listLeft partBytes was items (roomed partBytes was q)
   unfolding by
   left-list a (refused n) l e =
       let c : a .code ≡ n = ap (λ (x : FrameList). x .code) e in
@@ -122,8 +123,8 @@ module _ (was : List ℕ) (items : ℕ) where
   left-list a (done fs) l e =
       let n = e .1 in
       let b = ap (λ (k : ℕ). flat rangeSpell (take k (a .frames))) n ∙ same-bytes fs (take (length fs) (a .frames)) (e .2 .parts) in
-      let t = ap₂ (λ (j k : ℕ). leb (j * k) (length was)) (sym range-size) n in
-      sym (is-by was items a true (leb (417 * a .len) (length was)) (eq-eqb (a .code) 0 (e .0)) refl) ∙ (λ j. held (t j) (b j) (n j)) ∙ held-left (leb (partBytes .size * length fs) (length was)) fs
+      let t = ap₂ (λ (j k : ℕ). leb k (length was / j)) (sym range-size) n in
+      sym (is-by was items a true (leb (a .len) (length was / 417)) (eq-eqb (a .code) 0 (e .0)) refl) ∙ (λ j. held (t j) (b j) (n j)) ∙ held-left (leb (length fs) (slotsIn partBytes was)) fs
 
 list-chain : {A : Type 0} (t u : Bool) (x : A) → Early (ask t 3 >> (ask u 3 >> done x))
 list-chain true true x = tt

@@ -1,5 +1,5 @@
--- A segment's frames as a list in lent bytes: one range after another, and what lies past the last stays.
-use Prim.Native.Nat.{ℕ, _*_}
+-- A frame list by value, as it is put to lent bytes: one range after another, and what lies past the last stays.
+use Prim.Native.Nat.{ℕ, _/_}
 use mathlib.Core.Path.{_≡_}
 use mathlib.Core.List.{List, [], _∷_}
 use mathlib.Core.Bool.{true, cond}
@@ -7,25 +7,13 @@ use lib.Dec.{eqb, leb}
 use lib.ListN.{length, take}
 use Rattle.octets.specs.Bytes.{put}
 use Rattle.octets.specs.Flat.{flat}
-use Rattle.core.specs.Answers.{Answer, done, ask, _>>=_, _>>_}
 use Rattle.pageset.specs.Sets.{normal}
-use Rattle.rules.specs.Frames.{Part}
 use Rattle.commit.specs.declared.SegmentRange.{SegmentRange}
 use Rattle.commit.specs.Says.{rangeSays}
 use Rattle.frames.specs.declared.FrameList.{FrameList}
 use Rattle.layout.specs.Values.{partBytes}
 use Rattle.arguments.specs.declared.Reply.{Reply}
-use Rattle.arguments.specs.Replies.{none-under, given, value}
-
--- the lent list holds every range, or 19
-abbrev pub roomed : List ℕ → Answer (List Part) → Answer (List Part)
-roomed was q = q >>= λ fs. (ask (leb (partBytes .size * length fs) (length was)) 19 >> done fs)
-
--- the ranges from the start of the list on, and their number; after the rule's own numbers
-abbrev pub listLeft : List ℕ → ℕ → Answer (List Part) → Reply × (List ℕ × ℕ)
-listLeft was items q = value (λ fs. (put 0 (flat (partBytes .spell) fs) was, length fs)) (was, items) (roomed was q)
-
--- ---- a list by value, as it is put
+use Rattle.arguments.specs.Replies.{none-under, given}
 
 -- the bytes of a range
 abbrev pub rangeSpell : SegmentRange → List ℕ
@@ -40,5 +28,5 @@ AllFit (r ∷ rs) = (length (r .sid) ≡ 16) × (normal (r .pages) ≡ true) × 
 unfoldable pub listPut : List ℕ → ℕ → FrameList → Reply × (List ℕ × ℕ)
 listPut was items a =
     cond (eqb (a .code) 0)
-    (cond (leb (417 * a .len) (length was)) (given, (put 0 (flat rangeSpell (take (a .len) (a .frames))) was, a .len)) (none-under 19, (was, items)))
+    (cond (leb (a .len) (length was / 417)) (given, (put 0 (flat rangeSpell (take (a .len) (a .frames))) was, a .len)) (none-under 19, (was, items)))
     (none-under (a .code), (was, items))

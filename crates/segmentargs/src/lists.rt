@@ -36,7 +36,7 @@ pub fn put_list(a: FrameList, list: &mut [u8], items: &mut u32) -> Reply
         return Reply { code, found: 0 };
     }
     let n = a.len;
-    if list.len() < RANGE * n {
+    if list.len() / RANGE < n {
         return Reply { code: 19, found: 0 };
     }
     let ranges = a.frames;

@@ -3,7 +3,8 @@ use mathlib.Core.Path.{ap, _∙_}
 use lib.ListN.{length}
 use Rattle.commit.specs.declared.SegmentIdx.{SegmentIdx}
 use Rattle.frames.specs.Rules.{listRule}
-use Rattle.segmentargs.specs.Lists.{listLeft}
+use Rattle.layout.specs.Values.{partBytes}
+use Rattle.resultlists.specs.Lists.{roomed, listLeft}
 use Rattle.segmentargs.proofs.ListLaws.{left-list, list-early, list-few, list-fit, arg-sid}
 use borrow.Author.Needs.{needs}
 use Rattle.boundary.proofs.segments.sigatuda_frame_list.Statement.{statement}
@@ -28,7 +29,7 @@ returns : tie.Need-returns
 returns c =
     let s = c .before .before .before .before .before .before .segment-arg .result in
     let g = c .before .before .before .before .before .before .before .before .before .args in
-    c .before .before .put-list .ensures ∙ left-list (g .list .now) (g .items .now) (c .before .before .before .before .before .frame-list .result) (listRule s) (list-early s) (c .before .before .before .before .before .frame-list .ensures) ∙ ap (λ (x : SegmentIdx). listLeft (g .list .now) (g .items .now) (listRule x)) (c .before .before .before .before .before .before .segment-arg .ensures)
+    c .before .before .put-list .ensures ∙ left-list (g .list .now) (g .items .now) (c .before .before .before .before .before .frame-list .result) (listRule s) (list-early s) (c .before .before .before .before .before .frame-list .ensures) ∙ ap (λ (x : SegmentIdx). listLeft partBytes (g .list .now) (g .items .now) (roomed partBytes (g .list .now) (listRule x))) (c .before .before .before .before .before .before .segment-arg .ensures)
 
 pub sigatuda-frame-list-spec : {M : Type 1} → statement M
 sigatuda-frame-list-spec =

@@ -12,9 +12,6 @@ use Rattle.segmentargs.proofs.lists.put_list.Tie as tie
 returns : tie.Need-returns
 returns c = put-refused _ _ (c .before .before .args .a) (c .if1 .taken)
 
-mul-if2 : tie.Need-mul-if2
-mul-if2 c = search needs
-
 returns-2 : tie.Need-returns-2
 returns-2 c = put-short _ _ (c .before .before .before .args .a) (omega arith) (omega arith)
 
@@ -34,4 +31,4 @@ returns-3 c =
 pub put-list-spec : {M : Type 1} → statement M
 put-list-spec =
     tie.close
-    (tie.spec returns mul-if2 returns-2 write-ranges-requires cast-items same-length returns-3)
+    (tie.spec returns returns-2 write-ranges-requires cast-items same-length returns-3)

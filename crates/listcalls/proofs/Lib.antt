@@ -1,0 +1,4 @@
+-- The laws of the calls that answer a list.
+pub mod TableLaws
+pub mod RangeLaws
+pub mod PathLaws
