@@ -15,4 +15,5 @@ pub mod tables;
 pub mod tagcall;
 pub mod viewcall;
 pub mod volumecall;
+pub mod walkcall;
 pub mod writecall;

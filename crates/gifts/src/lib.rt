@@ -1,0 +1,117 @@
+// The walk of a snapshot, gift by gift: a commit gets the pages of its set, up to the page count, that no earlier commit of the path holds.
+pub mod paths;
+
+use commits::Place;
+use commits::has_segment_at;
+use commits::row;
+use core::page_count::PageCount;
+use pageset::PageSet;
+use pageset::sets;
+use paths::Path;
+use paths::place_at;
+use setbytes::set_read;
+ghost use mathlib.Core.Path.{_≡_};
+ghost use mathlib.Core.Bool.{true};
+ghost use Prim.Native.Nat.{_<_};
+ghost use lib.ListN.{drop};
+ghost use Rattle.table.specs.Table.{countOf};
+ghost use Rattle.pageset.specs.Sets.{shown, normal};
+ghost use Rattle.rules.specs.Pages.{minus, truncated};
+ghost use Rattle.rules.specs.Write.{pagesOf};
+ghost use Rattle.rules.specs.Walk.{notTaken, gift as giftOf};
+ghost use Rattle.layout.specs.Tables.{commitsOk};
+ghost use Rattle.setbytes.specs.Laid.{setLaid};
+ghost use Rattle.commits.specs.Places.{commitAt};
+ghost use Rattle.gifts.specs.Paths.{placesIn, Inside, commitsAt, before};
+ghost use Rattle.gifts.specs.Steps.{stepFrom};
+
+// What a step of the walk finds: where the next commit that gets pages stands, the number of the commit after it on the path, and its pages; or none.
+pub struct Step {
+    pub at: Place,
+    pub next: usize,
+    pub gift: PageSet,
+}
+
+// The pages of record i: none where its segment is missing.
+fn pages_at(commits: &[u8], i: usize) -> PageSet
+    requires { ⌜ (commitsOk (now commits) ≡ true) × (i < countOf (now commits)) ⌝ }
+    ensures { λ r. ⌜ r ≡ setLaid (pagesOf (commitAt (now (commits .entry)) i .segment)) ⌝ }
+{
+    if !has_segment_at(commits, i) {
+        return sets::empty();
+    }
+    set_read(commits, row(commits, i) + 79)
+}
+
+// The pages of a that b has not.
+fn without(a: PageSet, b: PageSet) -> PageSet
+    requires { ⌜ (normal a ≡ true) × (normal b ≡ true) ⌝ }
+    ensures { λ r. ⌜ r ≡ setLaid (minus (shown a) (shown b)) ⌝ }
+{
+    let both = sets::cut(a, b);
+    both.left
+}
+
+// The pages of a set up to a page count.
+fn up_to(s: PageSet, count: PageCount) -> PageSet
+    requires { ⌜ normal s ≡ true ⌝ }
+    ensures { λ r. ⌜ r ≡ setLaid (truncated (shown s) (count .0)) ⌝ }
+{
+    sets::truncate(s, count)
+}
+
+// The pages of a set that none of the path's first n commits holds.
+fn not_taken(commits: &[u8], path: Path, n: usize, s: PageSet) -> PageSet
+    requires { ⌜ (commitsOk (now commits) ≡ true) × Inside (now commits) (placesIn (path .runs)) × (normal s ≡ true) ⌝ }
+    ensures { λ r. ⌜ r ≡ setLaid (notTaken (shown s) (before n (commitsAt (now (commits .entry)) (placesIn (path .runs))))) ⌝ }
+{
+    let mut left = s;
+    let mut k: usize = 0;
+    while k < n {
+        if left.len == 0 {
+            return left;
+        }
+        let Place::At(i) = place_at(path, k) else {
+            return left;
+        };
+        left = without(left, pages_at(commits, i));
+        k += 1;
+    }
+    left
+}
+
+// What the commit in record i gets, which is the path's commit of number k.
+fn gift_of(commits: &[u8], path: Path, count: PageCount, k: usize, i: usize) -> PageSet
+    requires { ⌜ (commitsOk (now commits) ≡ true) × Inside (now commits) (placesIn (path .runs)) × (i < countOf (now commits)) ⌝ }
+    ensures { λ r. ⌜ r ≡ setLaid (giftOf (count .0) (before k (commitsAt (now (commits .entry)) (placesIn (path .runs)))) (commitAt (now (commits .entry)) i)) ⌝ }
+{
+    let pages = up_to(pages_at(commits, i), count);
+    not_taken(commits, path, k, pages)
+}
+
+// The next commit of the path, from number `from` on, that gets pages.
+pub fn next_gift(commits: &[u8], path: Path, count: PageCount, from: usize) -> Step
+    requires { ⌜ (commitsOk (now commits) ≡ true) × Inside (now commits) (placesIn (path .runs)) ⌝ }
+    ensures { λ r. ⌜ r ≡ stepFrom (now (commits .entry)) (count .0) (placesIn (path .runs)) from ⌝ }
+{
+    let mut k = from;
+    loop {
+        let Place::At(i) = place_at(path, k) else {
+            let none = sets::empty();
+            return Step {
+                at: Place::Missing,
+                next: k,
+                gift: none,
+            };
+        };
+        let gift = gift_of(commits, path, count, k, i);
+        k += 1;
+        if gift.len != 0 {
+            return Step {
+                at: Place::At(i),
+                next: k,
+                gift,
+            };
+        }
+    }
+}
