@@ -94,6 +94,35 @@ fn reads() {
     }
 }
 
+/// A page found by a snapshot of one range.
+fn searches() {
+    for count in [512, 65_535] {
+        let (commits, index) = (table(722, 32, |i, b| b.copy_from_slice(&commit_of(0, 38 - i as u64, 64))), table(29, count, entry));
+        let (mut snapshot, mut out, mut copy) = ([0; 262], [0; 722], [0; 722]);
+        assert_eq!(plain::snapshot_new(&[0; 16], 1, 9, 100, &mut snapshot).code, 0);
+        let ours = || plain::search(black_box(&commits), black_box(&index), &snapshot, 300, &mut out).found == 1;
+        let mut low = [0; 29];
+        low[17..21].copy_from_slice(&300u32.to_be_bytes());
+        low[21..].copy_from_slice(&(!9u64).to_be_bytes());
+        let rust = || {
+            let (commits, index) = (black_box(&commits), black_box(&index));
+            if !formed(commits, 722, 25, commit_form) || !formed(index, 29, 29, index_form) {
+                return false;
+            }
+            let at = place(index, 29, &low).unwrap_or_else(|at| at);
+            let found = &index[2 + at * 29..2 + (at + 1) * 29];
+            if found[..21] != low[..21] || be64(&found[21..]) > !1 {
+                return false;
+            }
+            let mut key = [0; 25];
+            key[17..].copy_from_slice(&found[21..]);
+            place(commits, 722, &key).map(|at| copy.copy_from_slice(&commits[2 + at * 722..2 + (at + 1) * 722])).is_ok()
+        };
+        line("search, index entries held", count, race(ours, rust));
+        assert_eq!(out, copy);
+    }
+}
+
 /// A page marked present, and one removed.
 fn marks() {
     for count in [512, 65_534] {
@@ -171,6 +200,7 @@ fn main() {
     writes();
     writes_of_one();
     reads();
+    searches();
     marks();
     removals();
     snapshots();

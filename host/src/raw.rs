@@ -80,6 +80,7 @@ unsafe extern "C" {
     pub(crate) fn sigatuda_latest_commit(commits: *const u8, commits_len: usize, log: *const [u8; 16], out: *mut u8, out_len: usize) -> Reply;
     pub(crate) fn sigatuda_latest_lsn(commits: *const u8, commits_len: usize, log: *const [u8; 16], lsn: *mut u64) -> Reply;
     pub(crate) fn sigatuda_page_count(commits: *const u8, commits_len: usize, log: *const [u8; 16], lsn: u64, count: *mut u32) -> Reply;
+    pub(crate) fn sigatuda_checkpoint_at(checkpoints: *const u8, checkpoints_len: usize, log: *const [u8; 16], lsn: u64, checkpoint: *mut u64) -> Reply;
     pub(crate) fn sigatuda_write_commit(commits: *mut u8, commits_len: usize, checkpoints: *mut u8, checkpoints_len: usize, index: *mut u8, index_len: usize, commit: *const u8, commit_len: usize) -> Reply;
     // over tables: present pages
     pub(crate) fn sigatuda_page_present(presence: *const u8, presence_len: usize, sid: *const [u8; 16], page: u32) -> Reply;
@@ -89,6 +90,7 @@ unsafe extern "C" {
     // over tables: snapshots
     pub(crate) fn sigatuda_snapshot(volumes: *const u8, volumes_len: usize, commits: *const u8, commits_len: usize, vid: *const [u8; 16], out: *mut u8, out_len: usize) -> Reply;
     pub(crate) fn sigatuda_latest_check(volumes: *const u8, volumes_len: usize, commits: *const u8, commits_len: usize, vid: *const [u8; 16], snapshot: *const u8, snapshot_len: usize) -> Reply;
+    pub(crate) fn sigatuda_search(commits: *const u8, commits_len: usize, index: *const u8, index_len: usize, snapshot: *const u8, snapshot_len: usize, page: u32, out: *mut u8, out_len: usize) -> Reply;
     // over tables: saving and sending
     pub(crate) fn sigatuda_sync(volumes: *mut u8, volumes_len: usize, commits: *const u8, commits_len: usize, vid: *const [u8; 16]) -> Reply;
     pub(crate) fn sigatuda_prepare(volumes: *mut u8, volumes_len: usize, commits: *const u8, commits_len: usize, vid: *const [u8; 16], local: u64, commit: u64, hash: *const [u8; 32]) -> Reply;

@@ -102,7 +102,8 @@ fn tags() {
 fn commits() {
     let mut tables = books();
     let mut t = tables.lend();
-    let (first, second) = (commit(LOCAL, 1, &[1, 2]), Commit { checkpoints: List::from_slice(&[lsn(1), lsn(2)]).unwrap(), ..commit(LOCAL, 2, &[2]) });
+    let (first, second) =
+        (commit(LOCAL, 1, &[1, 2]), Commit { checkpoints: List::from_slice(&[lsn(1), lsn(2)]).unwrap(), ..commit(LOCAL, 2, &[2]) });
     assert_eq!((t.write_commit(&first), t.write_commit(&second)), (Ok(()), Ok(())));
     assert_eq!((t.commits.read(LOCAL, lsn(1)), t.commits.latest(LOCAL)), (Ok(Some(first)), Ok(Some(second))));
     assert_eq!((t.commits.latest_lsn(LOCAL), t.commits.latest_lsn(REMOTE)), (Ok(Some(lsn(2))), Ok(None)));
@@ -129,6 +130,20 @@ fn sync_and_prepare() {
     t.write_commit(&commit(REMOTE, 5, &[1])).unwrap();
     t.write_commit(&commit(LOCAL, 1, &[1])).unwrap();
     assert_eq!(t.sync(VID), Err(Refusal::Diverged));
+}
+
+#[test]
+fn search() {
+    let mut tables = OwnedTables { volumes: table_of(&volume(synced(4, None), None)), ..books() };
+    let mut t = tables.lend();
+    let (local, remote) =
+        (commit(LOCAL, 1, &[1, 2]), Commit { checkpoints: List::from_slice(&[lsn(4)]).unwrap(), ..commit(REMOTE, 4, &[2, 3]) });
+    t.write_commit(&local).unwrap();
+    t.write_commit(&remote).unwrap();
+    let snapshot = t.snapshot(VID).unwrap();
+    assert_eq!((t.search(&snapshot, page(2)), t.search(&snapshot, page(3))), (Ok(Some(local)), Ok(Some(remote))));
+    assert_eq!(t.search(&snapshot, page(4)), Ok(None));
+    assert_eq!((t.checkpoints.at_or_below(REMOTE, lsn(9)), t.checkpoints.at_or_below(REMOTE, lsn(3))), (Ok(Some(lsn(4))), Ok(None)));
 }
 
 #[test]

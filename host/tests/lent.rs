@@ -15,6 +15,9 @@ const ROUNDS: usize = 900;
 /// The most bytes of stack that a call may use.
 const DEEPEST: usize = 8 * 1024;
 
+/// The entries for which half of the tables have room: more than a set holds pages.
+const AMPLE: usize = 2100;
+
 /// What lies in lent places before a call.
 const UNTOUCHED: u8 = 0xa5;
 const WORD: u32 = u32::from_be_bytes([UNTOUCHED; 4]);
@@ -110,9 +113,12 @@ fn aim(a: &mut Args, six: &Six, r: &mut Random) {
     }
 }
 
-/// A table: good, damaged up to three times, or any bytes.
+/// A table: good, with ample room or hardly any; damaged up to three times; or any bytes.
 fn table(kind: usize, spoiled: bool, r: &mut Random) -> Vec<u8> {
     let mut bytes = make::table(&TABLES[kind], r);
+    if !spoiled && r.below(2) == 0 {
+        bytes.resize(bytes.len() + AMPLE * TABLES[kind].record.min(30), 0x5a);
+    }
     if !spoiled {
         return bytes;
     }
@@ -323,7 +329,9 @@ fn tag_delete() {
 
 #[test]
 fn tag_replace() {
-    hold(&[TAGS], Place::Number(16), &[19], name, |t, a, out, _| id(out, |earlier| plain::tag_replace(&mut t[1], &a.name, &a.vid, earlier)));
+    hold(&[TAGS], Place::Number(16), &[19], name, |t, a, out, _| {
+        id(out, |earlier| plain::tag_replace(&mut t[1], &a.name, &a.vid, earlier))
+    });
 }
 
 #[test]
@@ -344,6 +352,11 @@ fn latest_lsn() {
 #[test]
 fn page_count() {
     hold(&[COMMITS], Place::Number(4), &[], at, |t, a, out, _| word(out, |n| plain::page_count(&t[2], &a.log, a.lsn, n)));
+}
+
+#[test]
+fn checkpoint_at() {
+    hold(&[CHECKPOINTS], Place::Number(8), &[], at, |t, a, out, _| long(out, |n| plain::checkpoint_at(&t[3], &a.log, a.lsn, n)));
 }
 
 #[test]
@@ -380,6 +393,12 @@ fn view() {
 #[test]
 fn latest_check() {
     hold(&[VOLUMES, COMMITS], Place::None, &[4], snapshot, |t, a, _, _| plain::latest_check(&t[0], &t[2], &a.vid, &a.snapshot));
+}
+
+#[test]
+fn search() {
+    let earns = |a: &Args| vec![judge::snapshot(&a.snapshot), zero(a.page.into())];
+    hold(&[COMMITS, INDEX], Place::Record(722), &[21], earns, |t, a, out, _| plain::search(&t[2], &t[4], &a.snapshot, a.page, out));
 }
 
 #[test]

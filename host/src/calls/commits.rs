@@ -1,6 +1,6 @@
 //! Calls on the commits alone, and on the checkpoints.
-use super::{Entries, found, listed};
-use crate::{Checkpoints, Commit, Commits, LogId, Lsn, PageCount, Refusal, Snapshot, WalkItem, plain};
+use super::found;
+use crate::{Checkpoints, Commit, Commits, LogId, Lsn, PageCount, Refusal, plain};
 
 impl Commits<'_> {
     /// The commit at an LSN of a log, or nothing: 20.
@@ -28,3 +28,11 @@ impl Commits<'_> {
     }
 }
 
+impl Checkpoints<'_> {
+    /// The highest checkpoint of a log at or below an LSN, or nothing: 20.
+    pub fn at_or_below(&self, log: LogId, lsn: Lsn) -> Result<Option<Lsn>, Refusal> {
+        let mut checkpoint = 0;
+        let found = plain::checkpoint_at(self.as_bytes(), &log.0, lsn.get(), &mut checkpoint).answer()?;
+        found.then(|| Lsn::new(checkpoint)).transpose()
+    }
+}

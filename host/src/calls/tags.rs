@@ -1,6 +1,6 @@
 //! Calls on the tags.
-use super::{Entries, done, listed};
-use crate::{Refusal, Tag, Tags, VolumeId, plain};
+use super::done;
+use crate::{Refusal, Tags, VolumeId, plain};
 
 /// Calls on the tags. A name of another length than 1 to 32 bytes is 1.
 impl Tags<'_> {

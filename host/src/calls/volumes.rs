@@ -1,5 +1,5 @@
 //! Calls on the volumes alone.
-use super::{Entries, done, listed, written};
+use super::{done, written};
 use crate::{Refusal, Volume, VolumeId, Volumes, plain};
 
 impl Volumes<'_> {

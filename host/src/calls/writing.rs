@@ -1,6 +1,6 @@
 //! Calls that make volumes and commits.
-use super::{NewVolume, done, written};
-use crate::{Commit, LogId, PageCount, PageSet, Refusal, SegmentId, Snapshot, Tables, Volume, VolumeId, plain};
+use super::done;
+use crate::{Commit, LogId, Refusal, Tables, VolumeId, plain};
 
 /// What a caller asks of the volume that is opened; a spare stands in for each part that is not asked.
 #[derive(Clone, Copy, Debug, Default, PartialEq, Eq)]
@@ -20,7 +20,6 @@ fn flagged(id: Option<[u8; 16]>) -> (u32, [u8; 16]) {
 
 /// Calls that make volumes and commits.
 impl Tables<'_> {
-
     /// Stores a commit in the place of any at its log and LSN, with its checkpoints and an index entry for each page; all or nothing, in commits,
     /// checkpoints and index: 20, 3, 19.
     pub fn write_commit(&mut self, commit: &Commit) -> Result<(), Refusal> {

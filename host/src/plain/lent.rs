@@ -65,9 +65,25 @@ pub fn page_count(commits: &[u8], log: &[u8; 16], lsn: u64, count: &mut u32) -> 
     unsafe { raw::sigatuda_page_count(commits.as_ptr(), commits.len(), log, lsn, count) }
 }
 
+/// A log's highest checkpoint at or below an LSN, or nothing: 20, 1.
+pub fn checkpoint_at(checkpoints: &[u8], log: &[u8; 16], lsn: u64, checkpoint: &mut u64) -> Reply {
+    unsafe { raw::sigatuda_checkpoint_at(checkpoints.as_ptr(), checkpoints.len(), log, lsn, checkpoint) }
+}
+
 /// Stores a commit with its checkpoints and index entries, all or nothing: 20, 1, 3, 19.
 pub fn write_commit(commits: &mut [u8], checkpoints: &mut [u8], index: &mut [u8], commit: &[u8]) -> Reply {
-    unsafe { raw::sigatuda_write_commit(commits.as_mut_ptr(), commits.len(), checkpoints.as_mut_ptr(), checkpoints.len(), index.as_mut_ptr(), index.len(), commit.as_ptr(), commit.len()) }
+    unsafe {
+        raw::sigatuda_write_commit(
+            commits.as_mut_ptr(),
+            commits.len(),
+            checkpoints.as_mut_ptr(),
+            checkpoints.len(),
+            index.as_mut_ptr(),
+            index.len(),
+            commit.as_ptr(),
+            commit.len(),
+        )
+    }
 }
 
 /// Whether a page of a segment is present: 20, 1.
@@ -97,7 +113,26 @@ pub fn snapshot(volumes: &[u8], commits: &[u8], vid: &[u8; 16], out: &mut [u8]) 
 
 /// Whether a snapshot is the volume's latest: 20, 1, 2, 3, 4.
 pub fn latest_check(volumes: &[u8], commits: &[u8], vid: &[u8; 16], snapshot: &[u8]) -> Reply {
-    unsafe { raw::sigatuda_latest_check(volumes.as_ptr(), volumes.len(), commits.as_ptr(), commits.len(), vid, snapshot.as_ptr(), snapshot.len()) }
+    unsafe {
+        raw::sigatuda_latest_check(volumes.as_ptr(), volumes.len(), commits.as_ptr(), commits.len(), vid, snapshot.as_ptr(), snapshot.len())
+    }
+}
+
+/// The commit that holds a page as a snapshot sees it, or nothing: 20, 1, 2, 3, 3 for `out`, 21.
+pub fn search(commits: &[u8], index: &[u8], snapshot: &[u8], page: u32, out: &mut [u8]) -> Reply {
+    unsafe {
+        raw::sigatuda_search(
+            commits.as_ptr(),
+            commits.len(),
+            index.as_ptr(),
+            index.len(),
+            snapshot.as_ptr(),
+            snapshot.len(),
+            page,
+            out.as_mut_ptr(),
+            out.len(),
+        )
+    }
 }
 
 /// Moves the volume's sync point to the remote's latest: 20, 4, 16, 8.
@@ -112,10 +147,36 @@ pub fn prepare(volumes: &mut [u8], commits: &[u8], vid: &[u8; 16], local: u64, c
 
 /// The pending commit was taken: writes it, and makes it the sync point: 20, 1, 3, 4, 10, 14, 15, 19.
 pub fn success(volumes: &mut [u8], commits: &mut [u8], checkpoints: &mut [u8], index: &mut [u8], vid: &[u8; 16], commit: &[u8]) -> Reply {
-    unsafe { raw::sigatuda_success(volumes.as_mut_ptr(), volumes.len(), commits.as_mut_ptr(), commits.len(), checkpoints.as_mut_ptr(), checkpoints.len(), index.as_mut_ptr(), index.len(), vid, commit.as_ptr(), commit.len()) }
+    unsafe {
+        raw::sigatuda_success(
+            volumes.as_mut_ptr(),
+            volumes.len(),
+            commits.as_mut_ptr(),
+            commits.len(),
+            checkpoints.as_mut_ptr(),
+            checkpoints.len(),
+            index.as_mut_ptr(),
+            index.len(),
+            vid,
+            commit.as_ptr(),
+            commit.len(),
+        )
+    }
 }
 
 /// Ends a pending commit by what is stored at its place in the remote log: 20, 4, 8 (and the pending commit is dropped), 19.
 pub fn recover(volumes: &mut [u8], commits: &mut [u8], checkpoints: &mut [u8], index: &mut [u8], vid: &[u8; 16]) -> Reply {
-    unsafe { raw::sigatuda_recover(volumes.as_mut_ptr(), volumes.len(), commits.as_mut_ptr(), commits.len(), checkpoints.as_mut_ptr(), checkpoints.len(), index.as_mut_ptr(), index.len(), vid) }
+    unsafe {
+        raw::sigatuda_recover(
+            volumes.as_mut_ptr(),
+            volumes.len(),
+            commits.as_mut_ptr(),
+            commits.len(),
+            checkpoints.as_mut_ptr(),
+            checkpoints.len(),
+            index.as_mut_ptr(),
+            index.len(),
+            vid,
+        )
+    }
 }

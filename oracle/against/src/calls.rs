@@ -14,7 +14,7 @@ macro_rules! calls {
         pub enum Op { $($op),* }
 
         impl Op {
-            pub const ALL: &'static [Op] = &[Op::VolumeRead, Op::VolumeExists, Op::VolumeDelete, Op::Drop, Op::TagRead, Op::TagExists, Op::TagDelete, Op::TagReplace, Op::CommitRead, Op::LatestCommit, Op::LatestLsn, Op::PageCount, Op::PagePresent, Op::PageMark, Op::PageRemove, Op::PagesRemove, Op::Snapshot, Op::LatestCheck, Op::WriteCommit, Op::Sync, Op::Prepare, Op::Success, Op::Recover];
+            pub const ALL: &'static [Op] = &[Op::VolumeRead, Op::VolumeExists, Op::VolumeDelete, Op::Drop, Op::TagRead, Op::TagExists, Op::TagDelete, Op::TagReplace, Op::CommitRead, Op::LatestCommit, Op::LatestLsn, Op::PageCount, Op::CheckpointAt, Op::PagePresent, Op::PageMark, Op::PageRemove, Op::PagesRemove, Op::Snapshot, Op::LatestCheck, Op::Search, Op::WriteCommit, Op::Sync, Op::Prepare, Op::Success, Op::Recover];
 
             pub fn name(self) -> &'static str {
                 match self { $(Op::$op => $name),* }
@@ -169,14 +169,14 @@ fn run_log(op: Op, a: &Args, tables: &mut Six, out: &mut [u8]) -> Reply {
         Op::LatestCommit => plain::latest_commit(commits, &a.log, out),
         Op::LatestLsn => number64(out, |n| plain::latest_lsn(commits, &a.log, n)),
         Op::PageCount => number32(out, |n| plain::page_count(commits, &a.log, a.lsn, n)),
-        Op::CheckpointAt => unreachable!("not exported yet"),
+        Op::CheckpointAt => number64(out, |n| plain::checkpoint_at(checkpoints, &a.log, a.lsn, n)),
         Op::PagePresent => plain::page_present(presence, &a.sid, a.page),
         Op::PageMark => plain::page_mark(presence, &a.sid, a.page),
         Op::PageRemove => plain::page_remove(presence, &a.sid, a.page),
         Op::PagesRemove => plain::pages_remove(presence, &a.sid, a.page, a.last),
         Op::Snapshot => plain::snapshot(volumes, commits, &a.vid, out),
         Op::LatestCheck => plain::latest_check(volumes, commits, &a.vid, &a.snapshot),
-        Op::Search => unreachable!("not exported yet"),
+        Op::Search => plain::search(commits, index, &a.snapshot, a.page, out),
         _ => unreachable!(),
     }
 }
