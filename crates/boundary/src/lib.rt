@@ -3,6 +3,7 @@
 pub mod forms;
 pub mod logs;
 pub mod numbers;
+pub mod savecall;
 pub mod segments;
 pub mod sets;
 pub mod tables;
