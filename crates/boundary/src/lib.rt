@@ -8,6 +8,7 @@ pub mod numbers;
 pub mod pagecall;
 pub mod pushcall;
 pub mod searchcall;
+pub mod savecall;
 pub mod segments;
 pub mod sets;
 pub mod synccall;
