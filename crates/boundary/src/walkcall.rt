@@ -10,7 +10,12 @@ ghost use Rattle.walkcalls.specs.Items.{itemBytes};
 
 // The walk of a snapshot into a list of items, and their number: 20, 1, 2, 3, 19.
 #[no_mangle]
-pub extern "C" fn sigatuda_walk(commits: &[u8], snapshot: &[u8], list: &mut [u8], items: &mut u32) -> Reply
+pub extern "C" fn sigatuda_walk(
+    commits: &[u8],
+    snapshot: &[u8],
+    list: &mut [u8],
+    items: &mut u32,
+) -> Reply
     ensures { λ r. ⌜ (r, (now (list .exit), now (items .exit))) ≡ listLeft itemBytes (now (list .entry)) (now (items .entry)) (lent (commitsOk (now (commits .entry))) (onSnapshot (now (snapshot .entry)) (walk (commitsIn (now (commits .entry))) (slotsIn itemBytes (now (list .entry)))))) ⌝ }
 {
     walkcalls::walk(commits, snapshot, list, items)

@@ -57,7 +57,7 @@ module _ (was : List ℕ) where
   by-place false (some v) = refl
 
   put-need : (o : Option Volume) → volumePut was (volumeAnswer (need o 4)) ≡ value (volumeBytes .spell) was (placed 117 was (need o 4))
-  unfolding volumePut
+  unfolding volumePut placed
   put-need o = by-place (eqb (length was) 117) o
 
   put-20 : volumePut was (volumeAnswer (refused 20)) ≡ (none-under 20, was)

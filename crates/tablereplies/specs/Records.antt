@@ -4,7 +4,7 @@ use mathlib.Core.List.{List}
 use mathlib.Core.Bool.{Bool, cond}
 use lib.Dec.{eqb}
 use lib.ListN.{length}
-use Rattle.core.specs.Answers.{Answer, refused, done, ask, _>>_}
+use Rattle.core.specs.Answers.{Answer, ask, _>>_}
 use Rattle.rules.specs.Records.{Id, Volume}
 use Rattle.volume.specs.Volumes.{volumeSays}
 use Rattle.volumecalls.specs.declared.VolumeAnswer.{VolumeAnswer}
@@ -14,9 +14,11 @@ use Rattle.layout.specs.Lent.{lent}
 use Rattle.arguments.specs.declared.Reply.{Reply}
 use Rattle.arguments.specs.Replies.{none-under, given, value}
 
--- 3: the place that is lent for a record of n bytes has n; asked after 20 and before what the rule asks
-abbrev pub placed : {A : Type 0} → ℕ → List ℕ → Answer A → Answer A
-placed n was rule = ask (eqb (length was) n) 3 >> rule
+-- the place lent for an answer of n bytes: 3 for another length, before what the rule asks
+unfoldable pub placed : {A : Type 0} → ℕ → List ℕ → Answer A → Answer A
+placed n was rule = do
+  ask (eqb (length was) n) 3
+  rule
 
 -- a volume's bytes in what is lent for them
 abbrev pub volumeLeft : List ℕ → Bool → Answer Volume → Reply × List ℕ

@@ -9,10 +9,11 @@ use lib.Dec.{leb}
 use lib.ListN.{length}
 use borrow.Author.Tests.{leb-true}
 use native.Mathlib.Omega.{arith}
-use Rattle.octets.specs.Bytes.{part}
+use Rattle.octets.specs.Bytes.{be, part}
 use Rattle.octets.proofs.Places.{part-all}
 use Rattle.core.specs.declared.lsn.Lsn.{Lsn}
 use Rattle.pageset.specs.Sets.{normalForm, normal, shown}
+use Rattle.pageset.specs.Says.{emptySet}
 use Rattle.pageset.specs.declared.PageSet.{PageSet}
 use Rattle.rules.specs.Lists.{all, given}
 use Rattle.rules.specs.Records.{Segment, Commit}
@@ -28,14 +29,16 @@ use Rattle.table.proofs.Checks.{well-two, well-count}
 use Rattle.batch.specs.Batch as Many
 use Rattle.batch.proofs.Puts.{room-news}
 use Rattle.layout.specs.Codecs.{Codec, inForm, listed, number}
+use Rattle.layout.specs.Values.{setBytes, segmentBytes}
 use Rattle.layout.specs.Records.{checkpointBytes, entryBytes, commitBytes}
 use Rattle.layout.specs.Tables.{formedIn, tableIn, laidOver}
 use Rattle.layout.proofs.HoldLaws.{in-form}
 use Rattle.setbytes.specs.Laid.{setLaid}
 use Rattle.setbytes.proofs.LaidLaws.{says-laid, laid-normal}
-use Rattle.commitbytes.specs.Laid.{lsnSays, lsnsLaid, givenSegment}
+use Rattle.segmentbytes.proofs.SegmentLaws.{segment-at}
+use Rattle.commitbytes.specs.Laid.{lsnSays, lsnsLaid}
 use Rattle.commitbytes.proofs.LsnLaws.{says-lsns}
-use Rattle.commitbytes.proofs.CommitLaws.{commit-at}
+use Rattle.commitbytes.proofs.CommitLaws.{commit-at, segment-none, segment-there}
 use Rattle.rows.proofs.Rows.{Layout, formed-well}
 use Rattle.rows.proofs.Stores.{putAll-fits, putAll-laid}
 use Rattle.indexing.specs.Rows as I
@@ -70,15 +73,21 @@ few-lsns : (c : Commit) → commitForm c ≡ true → length (c .checkpoints) �
 unfolding commitForm
 few-lsns c e = leb-true (length (c .checkpoints)) 8 (search (and-fst, and-snd))
 
--- the set of a segment that may be missing
-pub segment-pages : (o : Option Segment) → givenSegment o .pages ≡ setLaid (pagesOf o)
-segment-pages none = refl
-segment-pages (some s) = refl
-
 module _ (b : List ℕ) (ok : IsCommit b) where
   -- a commit's bytes are all of its slice
   pub whole : part 0 722 b ≡ b
   whole = ap (λ (n : ℕ). part 0 n b) (sym (ok .0)) ∙ part-all b
+
+  -- its pages: none where the segment is missing, else they stand in it, behind its identifier
+  pages-are : (o : Option Segment) → commitIn (part 0 722 b) .segment ≡ o → setLaid (pagesOf o) ≡ setLaid (pagesOf (commitIn b .segment))
+  pages-are o e = ap (λ (x : Option Segment). setLaid (pagesOf x)) (sym e ∙ ap (λ (x : List ℕ). commitIn x .segment) whole)
+
+  pub no-pages : be (part 62 1 b) ≡ 0 → emptySet ≡ setLaid (pagesOf (commitIn b .segment))
+  no-pages e = pages-are none (segment-none b 0 e)
+
+  pub pages-there : (be (part 62 1 b) ≡ 0 → ⊥) → setLaid (setBytes .read (part 79 385 b)) ≡ setLaid (pagesOf (commitIn b .segment))
+  pages-there e =
+      ap (λ (s : Segment). setLaid (s .pages)) (sym (segment-at b 63)) ∙ pages-are (some (segmentBytes .read (part 63 594 b))) (segment-there b 0 e)
 
   pub is-form : commitForm (commitIn b) ≡ true
   is-form = in-form commitBytes commitForm b (ok .1) .1

@@ -10,7 +10,10 @@ use layout::CHECKPOINT;
 use layout::COMMIT;
 use layout::COMMIT_KEY;
 use layout::ENTRY;
+use octets::load8;
 use pageset::PageSet;
+use pageset::sets;
+use setbytes::set_read;
 ghost use mathlib.Core.Path.{_≡_};
 ghost use mathlib.Core.Bool.{true};
 ghost use Rattle.core.specs.Answers.{code};
@@ -24,13 +27,22 @@ ghost use Rattle.rules.specs.Write.{pagesOf, checkpointsOf, entriesOf, Logs, wr
 ghost use Rattle.setbytes.specs.Laid.{setLaid};
 ghost use Rattle.writecalls.specs.Written.{IsCommit, commitIn, logsIn, logsOk, writeIn};
 
-// The pages of a commit: none where its segment is missing.
+// Where a commit's bytes say whether it has a segment, where that segment's pages stand, and where the listed checkpoints do.
+const SEGMENT: usize = 62;
+
+const PAGES: usize = 79;
+
+const CHECKPOINTS: usize = 657;
+
+// The pages of a commit, read where its segment's set stands: none where the segment is missing.
 pub fn commit_pages(c: &[u8]) -> PageSet
     requires { ⌜ IsCommit (now c) ⌝ }
     ensures { λ r. ⌜ r ≡ setLaid (pagesOf (commitIn (now (c .entry)) .segment)) ⌝ }
 {
-    let segment = fields::commit_segment(c, 0);
-    segment.pages
+    if load8(c, SEGMENT) == 0 {
+        return sets::empty();
+    }
+    set_read(c, PAGES)
 }
 
 // Whether the checkpoints have room for those of a commit.
@@ -39,8 +51,8 @@ pub fn room_for_checkpoints(t: &[u8], c: &[u8]) -> bool
     ensures { λ r. ⌜ r ≡ fits (storeAll checkpointKey logLsn (checkpointsOf (commitIn (now (c .entry)))) (checkpointsIn (now (t .entry)))) ⌝ }
 {
     let log = fields::commit_log(c, 0);
-    let n = lsns::lsns_number(c, 657);
-    let ns = lsns::lsns_read(c, 657);
+    let n = lsns::lsns_number(c, CHECKPOINTS);
+    let ns = lsns::lsns_read(c, CHECKPOINTS);
     let more = indexing::count_checkpoints(t, log, ns, n);
     table::room_for(t, CHECKPOINT, more)
 }
@@ -64,8 +76,8 @@ pub fn put_checkpoints(t: &mut [u8], c: &[u8])
     ensures { λ _. ⌜ now (t .exit) ≡ laidOver checkpointBytes (storeAll checkpointKey logLsn (checkpointsOf (commitIn (now (c .entry)))) (checkpointsIn (now (t .entry)))) (now (t .entry)) ⌝ }
 {
     let log = fields::commit_log(c, 0);
-    let n = lsns::lsns_number(c, 657);
-    let ns = lsns::lsns_read(c, 657);
+    let n = lsns::lsns_number(c, CHECKPOINTS);
+    let ns = lsns::lsns_read(c, CHECKPOINTS);
     indexing::put_checkpoints(t, log, ns, n);
 }
 
