@@ -7,6 +7,7 @@ pub mod logs;
 pub mod numbers;
 pub mod pagecall;
 pub mod pushcall;
+pub mod savecall;
 pub mod searchcall;
 pub mod segments;
 pub mod sets;

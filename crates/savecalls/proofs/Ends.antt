@@ -4,8 +4,8 @@ use mathlib.Core.Path.{_≡_, refl, sym, ap, _∙_, subst}
 use mathlib.Core.List.{List}
 use mathlib.Core.Option.{Option, none, some}
 use mathlib.Core.Bool.{Bool, true, false, not, _&&_}
-use borrow.Author.Tests.{le-leb}
-use lib.Dec.{leb}
+use borrow.Author.Tests.{le-leb, eqb-true}
+use lib.Dec.{eqb, leb}
 use lib.ListN.{length}
 use Rattle.core.specs.Answers.{Answer, refused, done, code, ask, need, _>>_, _>>=_}
 use Rattle.pageset.specs.Sets.{normalForm}
@@ -15,7 +15,7 @@ use Rattle.rules.specs.Arguments.{snapshotLsns, snapshotOrder, snapshotForm}
 use Rattle.rules.specs.Write.{Logs, logsFormed}
 use Rattle.rules.specs.Snapshots.{isLatest}
 use Rattle.rules.specs.Save.{lsnAfter, sidInUse, save}
-use Rattle.rules.proofs.TableLaws.{and-both}
+use Rattle.rules.proofs.TableLaws.{cases, and-both}
 use Rattle.layout.specs.Codecs.{Codec}
 use Rattle.layout.specs.Values.{setBytes}
 use Rattle.layout.specs.Tables.{volumesIn, commitsIn, presenceIn}
@@ -23,6 +23,8 @@ use Rattle.layout.specs.Lent.{lent, after}
 use Rattle.layout.proofs.LentLaws.{lent-no, lent-yes}
 use Rattle.rows.proofs.Rows.{formed-rules}
 use Rattle.rows.proofs.Tables as Layouts
+use Rattle.arguments.specs.declared.Reply.{Reply}
+use Rattle.arguments.specs.Replies.{numberedReply}
 use Rattle.arguments.specs.Snapshots.{snapshotIn}
 use Rattle.arguments.proofs.SnapshotLaws.{in-few}
 use Rattle.writecalls.specs.Written.{logsIn}
@@ -37,6 +39,16 @@ left-alone cs ks es ps out a n e = rw e (record { number = refl; ofCommits = ref
 -- the same answer leaves the same
 pub leaves-same : (cs ks es ps out : List ℕ) (a b : Answer Saved) → a ≡ b → (n : ℕ) (u x y w z : List ℕ) → Leaves cs ks es ps out a n u x y w z → Leaves cs ks es ps out b n u x y w z
 leaves-same cs ks es ps out a b e n u x y w z h = subst (λ (q : Answer Saved). Leaves cs ks es ps out q n u x y w z) e h
+
+-- ---- the reply of a number
+
+reply-code : (n : ℕ) → numberedReply n .code ≡ n
+reply-code n = cases (eqb n 0) (λ e. rw e (sym (eqb-true n 0 e))) (λ e. rw e)
+
+pub replied : (cs ks es ps out : List ℕ) (a : Answer Saved) (n : ℕ) (u x y w z : List ℕ) (r : Reply) → Leaves cs ks es ps out a n u x y w z → r ≡ numberedReply n
+    → (r ≡ numberedReply (code a)) × Leaves cs ks es ps out a (r .code) u x y w z
+replied cs ks es ps out a n u x y w z r h e =
+    (e ∙ ap numberedReply (h .number), subst (λ (m : ℕ). Leaves cs ks es ps out a m u x y w z) (sym (ap (λ (q : Reply). q .code) e ∙ reply-code n)) h)
 
 -- ---- the rule is the plan, and then the store
 
