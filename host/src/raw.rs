@@ -68,11 +68,13 @@ unsafe extern "C" {
     // over tables: volumes
     pub(crate) fn sigatuda_volume_read(volumes: *const u8, volumes_len: usize, vid: *const [u8; 16], out: *mut u8, out_len: usize) -> Reply;
     pub(crate) fn sigatuda_volume_exists(volumes: *const u8, volumes_len: usize, vid: *const [u8; 16]) -> Reply;
+    pub(crate) fn sigatuda_volume_list(volumes: *const u8, volumes_len: usize, list: *mut u8, list_len: usize, items: *mut u32) -> Reply;
     pub(crate) fn sigatuda_volume_delete(volumes: *mut u8, volumes_len: usize, vid: *const [u8; 16]) -> Reply;
     pub(crate) fn sigatuda_drop(volumes: *mut u8, volumes_len: usize, vid: *const [u8; 16]) -> Reply;
     // over tables: tags
     pub(crate) fn sigatuda_tag_read(tags: *const u8, tags_len: usize, name: *const u8, name_len: usize, vid: *mut [u8; 16]) -> Reply;
     pub(crate) fn sigatuda_tag_exists(tags: *const u8, tags_len: usize, name: *const u8, name_len: usize) -> Reply;
+    pub(crate) fn sigatuda_tag_list(tags: *const u8, tags_len: usize, list: *mut u8, list_len: usize, items: *mut u32) -> Reply;
     pub(crate) fn sigatuda_tag_delete(tags: *mut u8, tags_len: usize, name: *const u8, name_len: usize) -> Reply;
     pub(crate) fn sigatuda_tag_replace(tags: *mut u8, tags_len: usize, name: *const u8, name_len: usize, vid: *const [u8; 16], earlier: *mut [u8; 16]) -> Reply;
     // over tables: commits
@@ -80,6 +82,7 @@ unsafe extern "C" {
     pub(crate) fn sigatuda_latest_commit(commits: *const u8, commits_len: usize, log: *const [u8; 16], out: *mut u8, out_len: usize) -> Reply;
     pub(crate) fn sigatuda_latest_lsn(commits: *const u8, commits_len: usize, log: *const [u8; 16], lsn: *mut u64) -> Reply;
     pub(crate) fn sigatuda_page_count(commits: *const u8, commits_len: usize, log: *const [u8; 16], lsn: u64, count: *mut u32) -> Reply;
+    pub(crate) fn sigatuda_stored_lsns(commits: *const u8, commits_len: usize, log: *const [u8; 16], start: u64, end: u64, list: *mut u8, list_len: usize, items: *mut u32) -> Reply;
     pub(crate) fn sigatuda_checkpoint_at(checkpoints: *const u8, checkpoints_len: usize, log: *const [u8; 16], lsn: u64, checkpoint: *mut u64) -> Reply;
     pub(crate) fn sigatuda_write_commit(commits: *mut u8, commits_len: usize, checkpoints: *mut u8, checkpoints_len: usize, index: *mut u8, index_len: usize, commit: *const u8, commit_len: usize) -> Reply;
     // over tables: present pages
@@ -90,7 +93,9 @@ unsafe extern "C" {
     // over tables: snapshots
     pub(crate) fn sigatuda_snapshot(volumes: *const u8, volumes_len: usize, commits: *const u8, commits_len: usize, vid: *const [u8; 16], out: *mut u8, out_len: usize) -> Reply;
     pub(crate) fn sigatuda_latest_check(volumes: *const u8, volumes_len: usize, commits: *const u8, commits_len: usize, vid: *const [u8; 16], snapshot: *const u8, snapshot_len: usize) -> Reply;
+    pub(crate) fn sigatuda_snapshot_commits(commits: *const u8, commits_len: usize, snapshot: *const u8, snapshot_len: usize, list: *mut u8, list_len: usize, items: *mut u32) -> Reply;
     pub(crate) fn sigatuda_search(commits: *const u8, commits_len: usize, index: *const u8, index_len: usize, snapshot: *const u8, snapshot_len: usize, page: u32, out: *mut u8, out_len: usize) -> Reply;
+    pub(crate) fn sigatuda_walk(commits: *const u8, commits_len: usize, snapshot: *const u8, snapshot_len: usize, list: *mut u8, list_len: usize, items: *mut u32) -> Reply;
     // over tables: saving and sending
     pub(crate) fn sigatuda_sync(volumes: *mut u8, volumes_len: usize, commits: *const u8, commits_len: usize, vid: *const [u8; 16]) -> Reply;
     pub(crate) fn sigatuda_prepare(volumes: *mut u8, volumes_len: usize, commits: *const u8, commits_len: usize, vid: *const [u8; 16], local: u64, commit: u64, hash: *const [u8; 32]) -> Reply;

@@ -159,6 +159,40 @@ fn present_pages() {
     assert_eq!(presence.remove_range(sid, page(3), page(2)), Err(Refusal::Reversed));
 }
 
+#[test]
+fn lists() {
+    let mut tables = OwnedTables { volumes: table_of(&volume(None, None)), ..books() };
+    let mut t = tables.lend();
+    let mut list = [0xa5; 4 * 722];
+    assert!(t.volumes.list(&mut list).unwrap().eq([volume(None, None)]));
+    t.tags.replace(b"b", VID).unwrap();
+    t.tags.replace(b"a", VID).unwrap();
+    assert!(t.tags.list(&mut list).unwrap().map(|tag| tag.name().to_vec()).eq([b"a", b"b"]));
+    for n in [1, 2, 5] {
+        t.write_commit(&commit(LOCAL, n, &[1])).unwrap();
+    }
+    assert!(t.commits.stored_lsns(LOCAL, lsn(2), lsn(9), &mut list).unwrap().eq([lsn(5), lsn(2)]), "falling");
+    assert_eq!(t.commits.stored_lsns(LOCAL, lsn(2), lsn(1), &mut list).err(), Some(Refusal::Reversed));
+    assert_eq!(t.commits.stored_lsns(LOCAL, lsn(2), lsn(9), &mut list[..15]).err(), Some(Refusal::NoRoom));
+    let twice = Snapshot { count: PageCount(9), path: List::from_slice(&[range(LOCAL, 2, 9), range(LOCAL, 1, 2)]).unwrap() };
+    let lsns = t.commits.of_snapshot(&twice, &mut list).unwrap().map(|c| c.lsn);
+    assert!(lsns.eq([lsn(5), lsn(2), lsn(2), lsn(1)]), "in path order");
+}
+
+#[test]
+fn walk() {
+    let mut tables = books();
+    let mut t = tables.lend();
+    let (first, second) = (commit(LOCAL, 1, &[1, 2, 10]), commit(LOCAL, 2, &[2, 3]));
+    t.write_commit(&first).unwrap();
+    t.write_commit(&second).unwrap();
+    let snapshot = Snapshot { count: PageCount(9), path: List::from_slice(&[range(LOCAL, 1, 2), range(LOCAL, 1, 1)]).unwrap() };
+    let mut list = [0; 2 * WalkItem::SIZE];
+    let item = |c: &Commit, of: &[u32]| WalkItem { log: c.log, lsn: c.lsn, segment: c.segment.unwrap(), gift: pages(of) };
+    assert!(t.commits.walk(&snapshot, &mut list).unwrap().eq([item(&second, &[2, 3]), item(&first, &[1])]));
+    assert_eq!(t.commits.walk(&snapshot, &mut list[1..]).err(), Some(Refusal::NoRoom));
+}
+
 /// Identifiers that nothing has.
 const SPARE: NewVolume = NewVolume { vid: VolumeId(id(21)), local: LogId(id(22)), remote: LogId(id(23)) };
 

@@ -303,6 +303,11 @@ fn volume_exists() {
 }
 
 #[test]
+fn volume_list() {
+    hold(&[VOLUMES], Place::List(117), &[19], none, |t, _, out, items| plain::volume_list(&t[0], out, items));
+}
+
+#[test]
 fn volume_delete() {
     hold(&[VOLUMES], Place::None, &[], none, |t, a, _, _| plain::volume_delete(&mut t[0], &a.vid));
 }
@@ -320,6 +325,11 @@ fn tag_read() {
 #[test]
 fn tag_exists() {
     hold(&[TAGS], Place::None, &[], name, |t, a, _, _| plain::tag_exists(&t[1], &a.name));
+}
+
+#[test]
+fn tag_list() {
+    hold(&[TAGS], Place::List(50), &[19], none, |t, _, out, items| plain::tag_list(&t[1], out, items));
 }
 
 #[test]
@@ -352,6 +362,12 @@ fn latest_lsn() {
 #[test]
 fn page_count() {
     hold(&[COMMITS], Place::Number(4), &[], at, |t, a, out, _| word(out, |n| plain::page_count(&t[2], &a.log, a.lsn, n)));
+}
+
+#[test]
+fn stored_lsns() {
+    let earns = |a: &Args| vec![span(a.lsn, a.end)];
+    hold(&[COMMITS], Place::List(8), &[19], earns, |t, a, out, items| plain::stored_lsns(&t[2], &a.log, a.lsn, a.end, out, items));
 }
 
 #[test]
@@ -396,9 +412,19 @@ fn latest_check() {
 }
 
 #[test]
+fn snapshot_commits() {
+    hold(&[COMMITS], Place::List(722), &[19], snapshot, |t, a, out, items| plain::snapshot_commits(&t[2], &a.snapshot, out, items));
+}
+
+#[test]
 fn search() {
     let earns = |a: &Args| vec![judge::snapshot(&a.snapshot), zero(a.page.into())];
     hold(&[COMMITS, INDEX], Place::Record(722), &[21], earns, |t, a, out, _| plain::search(&t[2], &t[4], &a.snapshot, a.page, out));
+}
+
+#[test]
+fn walk() {
+    hold(&[COMMITS], Place::List(1003), &[19], snapshot, |t, a, out, items| plain::walk(&t[2], &a.snapshot, out, items));
 }
 
 #[test]

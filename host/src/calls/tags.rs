@@ -1,6 +1,6 @@
 //! Calls on the tags.
-use super::done;
-use crate::{Refusal, Tags, VolumeId, plain};
+use super::{Entries, done, listed};
+use crate::{Refusal, Tag, Tags, VolumeId, plain};
 
 /// Calls on the tags. A name of another length than 1 to 32 bytes is 1.
 impl Tags<'_> {
@@ -14,6 +14,11 @@ impl Tags<'_> {
     /// Whether there is a tag of that name: 20, 1.
     pub fn exists(&self, name: &[u8]) -> Result<bool, Refusal> {
         plain::tag_exists(self.as_bytes(), name).answer()
+    }
+
+    /// Every tag, in key order, in a lent list of 50 bytes each: 20, 19.
+    pub fn list<'l>(&self, list: &'l mut [u8]) -> Result<Entries<'l, Tag>, Refusal> {
+        listed(list, |list, items| plain::tag_list(self.as_bytes(), list, items))
     }
 
     /// Removes a tag; done where there is none: 20, 1.

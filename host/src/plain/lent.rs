@@ -15,6 +15,11 @@ pub fn volume_exists(volumes: &[u8], vid: &[u8; 16]) -> Reply {
     unsafe { raw::sigatuda_volume_exists(volumes.as_ptr(), volumes.len(), vid) }
 }
 
+/// Every volume in key order, one record after another, and their number: 20, 19. What lies past the answer stays.
+pub fn volume_list(volumes: &[u8], list: &mut [u8], items: &mut u32) -> Reply {
+    unsafe { raw::sigatuda_volume_list(volumes.as_ptr(), volumes.len(), list.as_mut_ptr(), list.len(), items) }
+}
+
 /// Removes the volume's record; done where there is none: 20.
 pub fn volume_delete(volumes: &mut [u8], vid: &[u8; 16]) -> Reply {
     unsafe { raw::sigatuda_volume_delete(volumes.as_mut_ptr(), volumes.len(), vid) }
@@ -33,6 +38,11 @@ pub fn tag_read(tags: &[u8], name: &[u8], vid: &mut [u8; 16]) -> Reply {
 /// Whether there is a tag of that name: 20, 1.
 pub fn tag_exists(tags: &[u8], name: &[u8]) -> Reply {
     unsafe { raw::sigatuda_tag_exists(tags.as_ptr(), tags.len(), name.as_ptr(), name.len()) }
+}
+
+/// Every tag in key order, one record after another, and their number: 20, 19. What lies past the answer stays.
+pub fn tag_list(tags: &[u8], list: &mut [u8], items: &mut u32) -> Reply {
+    unsafe { raw::sigatuda_tag_list(tags.as_ptr(), tags.len(), list.as_mut_ptr(), list.len(), items) }
 }
 
 /// Removes a tag; done where there is none: 20, 1.
@@ -63,6 +73,11 @@ pub fn latest_lsn(commits: &[u8], log: &[u8; 16], lsn: &mut u64) -> Reply {
 /// The page count as of a log's LSN, or nothing: 20, 1.
 pub fn page_count(commits: &[u8], log: &[u8; 16], lsn: u64, count: &mut u32) -> Reply {
     unsafe { raw::sigatuda_page_count(commits.as_ptr(), commits.len(), log, lsn, count) }
+}
+
+/// The LSNs of a log's range that are stored, falling, 8 bytes each, and their number: 20, 1, 2, 19. What lies past the answer stays.
+pub fn stored_lsns(commits: &[u8], log: &[u8; 16], start: u64, end: u64, list: &mut [u8], items: &mut u32) -> Reply {
+    unsafe { raw::sigatuda_stored_lsns(commits.as_ptr(), commits.len(), log, start, end, list.as_mut_ptr(), list.len(), items) }
 }
 
 /// A log's highest checkpoint at or below an LSN, or nothing: 20, 1.
@@ -118,6 +133,21 @@ pub fn latest_check(volumes: &[u8], commits: &[u8], vid: &[u8; 16], snapshot: &[
     }
 }
 
+/// The commits of a snapshot in path order, LSN falling, one record after another, and their number: 20, 1, 2, 3, 19.
+pub fn snapshot_commits(commits: &[u8], snapshot: &[u8], list: &mut [u8], items: &mut u32) -> Reply {
+    unsafe {
+        raw::sigatuda_snapshot_commits(
+            commits.as_ptr(),
+            commits.len(),
+            snapshot.as_ptr(),
+            snapshot.len(),
+            list.as_mut_ptr(),
+            list.len(),
+            items,
+        )
+    }
+}
+
 /// The commit that holds a page as a snapshot sees it, or nothing: 20, 1, 2, 3, 3 for `out`, 21.
 pub fn search(commits: &[u8], index: &[u8], snapshot: &[u8], page: u32, out: &mut [u8]) -> Reply {
     unsafe {
@@ -133,6 +163,11 @@ pub fn search(commits: &[u8], index: &[u8], snapshot: &[u8], page: u32, out: &mu
             out.len(),
         )
     }
+}
+
+/// What each commit of a snapshot gives, in path order, one item of 1003 bytes after another, and their number: 20, 1, 2, 3, 19.
+pub fn walk(commits: &[u8], snapshot: &[u8], list: &mut [u8], items: &mut u32) -> Reply {
+    unsafe { raw::sigatuda_walk(commits.as_ptr(), commits.len(), snapshot.as_ptr(), snapshot.len(), list.as_mut_ptr(), list.len(), items) }
 }
 
 /// Moves the volume's sync point to the remote's latest: 20, 4, 16, 8.

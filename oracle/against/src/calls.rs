@@ -14,7 +14,7 @@ macro_rules! calls {
         pub enum Op { $($op),* }
 
         impl Op {
-            pub const ALL: &'static [Op] = &[Op::VolumeRead, Op::VolumeExists, Op::VolumeDelete, Op::Drop, Op::TagRead, Op::TagExists, Op::TagDelete, Op::TagReplace, Op::CommitRead, Op::LatestCommit, Op::LatestLsn, Op::PageCount, Op::CheckpointAt, Op::PagePresent, Op::PageMark, Op::PageRemove, Op::PagesRemove, Op::Snapshot, Op::LatestCheck, Op::Search, Op::WriteCommit, Op::Sync, Op::Prepare, Op::Success, Op::Recover];
+            pub const ALL: &'static [Op] = &[Op::VolumeRead, Op::VolumeExists, Op::VolumeDelete, Op::Drop, Op::TagRead, Op::TagExists, Op::TagDelete, Op::TagReplace, Op::CommitRead, Op::LatestCommit, Op::LatestLsn, Op::PageCount, Op::CheckpointAt, Op::PagePresent, Op::PageMark, Op::PageRemove, Op::PagesRemove, Op::Snapshot, Op::LatestCheck, Op::Search, Op::VolumeList, Op::TagList, Op::StoredLsns, Op::SnapshotCommits, Op::Walk, Op::WriteCommit, Op::Sync, Op::Prepare, Op::Success, Op::Recover];
 
             pub fn name(self) -> &'static str {
                 match self { $(Op::$op => $name),* }
@@ -184,11 +184,11 @@ fn run_log(op: Op, a: &Args, tables: &mut Six, out: &mut [u8]) -> Reply {
 fn run_list(op: Op, a: &Args, tables: &mut Six, out: &mut [u8], items: &mut u32) -> Reply {
     let [volumes, tags, commits, _, _, presence] = tables;
     match op {
-        Op::VolumeList => unreachable!("not exported yet"),
-        Op::TagList => unreachable!("not exported yet"),
-        Op::StoredLsns => unreachable!("not exported yet"),
-        Op::SnapshotCommits => unreachable!("not exported yet"),
-        Op::Walk => unreachable!("not exported yet"),
+        Op::VolumeList => plain::volume_list(volumes, out, items),
+        Op::TagList => plain::tag_list(tags, out, items),
+        Op::StoredLsns => plain::stored_lsns(commits, &a.log, a.lsn, a.end, out, items),
+        Op::SnapshotCommits => plain::snapshot_commits(commits, &a.snapshot, out, items),
+        Op::Walk => plain::walk(commits, &a.snapshot, out, items),
         Op::MissingFrames => unreachable!("not exported yet"),
         _ => unreachable!(),
     }

@@ -19,7 +19,7 @@ fn main() -> std::process::ExitCode {
     harness::original::keep_panics();
     let mut tally = tally::Tally::new();
     let ran = std::panic::catch_unwind(std::panic::AssertUnwindSafe(|| {
-        let _ = pure::compare;
+        pure::compare(n, seed, &mut tally);
         histories::compare(n, seed, &mut tally);
     }));
     if ran.is_err() {
