@@ -1,0 +1,1 @@
+// What the demands say of the public calls: definitions and theorems over their contracts, and no code.
