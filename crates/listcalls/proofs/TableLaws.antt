@@ -1,8 +1,8 @@
 -- All rows of a table as a list: the bytes behind the count are the bytes of its records, and as many fit as the rule's list has places. A formed table passes the rule's own 20. Assumes nothing.
 use Prim.Native.Nat.{ℕ, _+_, _-_, _*_, _/_, _<_, _≤_, Ordering}
-use mathlib.Core.Path.{_≡_, refl, sym, ap, ap₂, _∙_}
+use mathlib.Core.Path.{_≡_, sym, ap, ap₂, _∙_}
 use mathlib.Core.List.{List}
-use mathlib.Core.Bool.{Bool, true, false, cond}
+use mathlib.Core.Bool.{Bool, true, cond}
 use native.Mathlib.Omega.{arith}
 use borrow.Author.Tests.{le-leb, lt-leb}
 use lib.Dec.{leb}
@@ -22,6 +22,7 @@ use Rattle.rows.proofs.Tables.{volumes, tags}
 use Rattle.arguments.specs.declared.Reply.{Reply}
 use Rattle.arguments.specs.Replies.{none-under, given}
 use Rattle.resultlists.specs.Lists.{slotsIn, listLeft}
+use Rattle.resultlists.proofs.AnswerLaws.{left-asked}
 use Rattle.resultlists.proofs.RowLaws.{rows-bytes, table-rows}
 use Rattle.listcalls.specs.Runs.{rowsPut}
 
@@ -61,16 +62,12 @@ module _ {R K : Type 0} {c : Codec R} {s k : ℕ} {form : R → Bool} {key : R �
     abbrev held : Bool → Reply × (List ℕ × ℕ)
     held b = cond b (given, (put 0 (flat (c .spell) (tableIn c t .rows)) was, length (tableIn c t .rows))) (none-under 19, (was, items))
 
-    held-left : (b : Bool) → held b ≡ listLeft c was items (ask b 19 >> done (tableIn c t .rows))
-    held-left true = refl
-    held-left false = refl
-
     pub rows-left : rowsPut s t was items ≡ listLeft c was items (ask (leb (length (tableIn c t .rows)) (slotsIn c was)) 19 >> done (tableIn c t .rows))
     unfolding rowsPut
     rows-left =
         ap₂ (λ (m : ℕ) (b : List ℕ). cond (leb m (length was / s)) (given, (put 0 b was, m)) (none-under 19, (was, items))) (sym (length-rows L t)) bytes-are
         ∙ ap (λ (w : ℕ). held (leb (length (tableIn c t .rows)) (length was / w))) (sym (L .wide))
-        ∙ held-left (leb (length (tableIn c t .rows)) (slotsIn c was))
+        ∙ left-asked c was items (leb (length (tableIn c t .rows)) (slotsIn c was)) (tableIn c t .rows)
 
 -- ---- the two rules
 

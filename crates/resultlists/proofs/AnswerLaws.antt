@@ -1,8 +1,8 @@
 -- What a call with a result list leaves, at each way out of the code: a refusal, 19, or the entries that were put. Assumes nothing.
 use Prim.Native.Nat.{ℕ, _/_, _<_, _≤_}
-use mathlib.Core.Path.{_≡_, sym, ap, ap₂, _∙_}
+use mathlib.Core.Path.{_≡_, refl, sym, ap, ap₂, _∙_}
 use mathlib.Core.List.{List}
-use mathlib.Core.Bool.{Bool}
+use mathlib.Core.Bool.{Bool, true, false, cond}
 use borrow.Author.Tests.{le-leb, lt-leb}
 use lib.Dec.{leb}
 use lib.ListN.{length}
@@ -28,6 +28,11 @@ module _ {A : Type 0} (c : Codec A) (was : List ℕ) (items : ℕ) (q : Answer (
   left-listed s l t n e w k = left-put l t n e (w .bytes) k
 
 -- ---- room, as the rules ask for it
+
+-- by its test
+pub left-asked : {A : Type 0} (c : Codec A) (was : List ℕ) (items : ℕ) (b : Bool) (l : List A) → cond b (given, (put 0 (flat (c .spell) l) was, length l)) (none-under 19, (was, items)) ≡ listLeft c was items (ask b 19 >> done l)
+left-asked c was items true l = refl
+left-asked c was items false l = refl
 
 module _ {A : Type 0} (c : Codec A) (s : ℕ) (wide : c .size ≡ s) (was : List ℕ) (l : List A) (n : ℕ) (k : n ≡ length l) where
   asked : (b : Bool) → leb n (length was / s) ≡ b → (ask (leb (length l) (slotsIn c was)) 19 >> done l) ≡ (ask b 19 >> done l)

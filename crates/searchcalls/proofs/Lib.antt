@@ -1,4 +1,3 @@
 -- The laws of the calls' answers, and demand 3 over the call.
 pub mod PathLaws
 pub mod CallLaws
-pub mod Demand3

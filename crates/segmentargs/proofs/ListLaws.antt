@@ -1,7 +1,7 @@
 -- A frame list across the boundary: each range fills its 417 bytes, so that the loop stores one run behind the other; and what is left of an answer to the rule. Assumes nothing.
 use Prim.Native.Nat.{ℕ, zero, suc, _+_, _*_, _/_, _<_, _≤_}
 use mathlib.Core.Path.{_≡_, refl, sym, ap, ap₂, _∙_, subst}
-use mathlib.Core.List.{List, [], _∷_, _++_, append-assoc, append-nil}
+use mathlib.Core.List.{List, [], _∷_, _++_}
 use mathlib.Core.Bool.{Bool, true, false, cond, _&&_}
 use native.Mathlib.Omega.{arith}
 use native.Mathlib.Numerals.{add-one}
@@ -11,8 +11,8 @@ use lib.ListN.{length, getD, take, drop, length-map, length-take}
 use lib.Seq.{take-suc, getD-take, length-take-le}
 use Rattle.octets.specs.Bytes.{put}
 use Rattle.octets.specs.Flat.{flat}
-use Rattle.octets.proofs.Places.{Stored, stored, then-stored, put-none}
-use Rattle.core.specs.Answers.{Answer, refused, done, ask, _>>=_, _>>_}
+use Rattle.octets.proofs.Places.{Stored, then-stored, put-none}
+use Rattle.core.specs.Answers.{Answer, refused, done, ask, _>>_}
 use Rattle.pageset.proofs.FormLaws.{and-fst, and-snd}
 use Rattle.pageset.specs.Sets.{normal}
 use Rattle.rules.specs.Records as R
@@ -22,7 +22,7 @@ use Rattle.commit.specs.declared.SegmentIdx.{SegmentIdx}
 use Rattle.commit.specs.declared.SegmentRange.{SegmentRange}
 use Rattle.commit.specs.Says.{frameSays, segmentSays}
 use Rattle.frames.specs.declared.FrameList.{FrameList}
-use Rattle.frames.specs.Parts.{AreRanges, Filled, noList, Lists}
+use Rattle.frames.specs.Parts.{AreRanges, Lists}
 use Rattle.frames.specs.Rules.{listRule, spelled, noFrames}
 use Rattle.layout.specs.Codecs.{inForm}
 use Rattle.layout.proofs.HoldLaws.{in-form}
@@ -34,15 +34,15 @@ use Rattle.arguments.specs.Args.{argument}
 use Rattle.arguments.proofs.SetLaws.{Early}
 use Rattle.segmentargs.specs.Segments.{notASegment, segmentArg}
 use Rattle.resultlists.specs.Lists.{slotsIn, roomed, listLeft}
+use Rattle.resultlists.proofs.EntryLaws.{flat-append, flat-one}
+use Rattle.resultlists.proofs.AnswerLaws.{left-asked}
 use Rattle.segmentargs.specs.Lists.{rangeSpell, AllFit, listPut}
 use Rattle.segmentargs.proofs.SegmentLaws.{range-size, range-long}
 
 -- ---- the loop
 
 flat-last : {A : Type 0} (e : A → List ℕ) (xs : List A) (x : A) → flat e (xs ++ (x ∷ [])) ≡ flat e xs ++ e x
-unfolding flat
-flat-last e [] x = append-nil (e x)
-flat-last e (y ∷ xs) x = ap (λ (l : List ℕ). e y ++ l) (flat-last e xs x) ∙ sym (append-assoc (e y) (flat e xs) (e x))
+flat-last e xs x = flat-append e xs (x ∷ []) ∙ ap (λ (l : List ℕ). flat e xs ++ l) (flat-one e x)
 
 -- what was written in i turns
 abbrev pub Written : ℕ → List SegmentRange → List ℕ → List ℕ → Type 0
@@ -111,10 +111,6 @@ module _ (was : List ℕ) (items : ℕ) where
   abbrev held : Bool → List ℕ → ℕ → Reply × (List ℕ × ℕ)
   held t b k = cond t (given, (put 0 b was, k)) (none-under 19, (was, items))
 
-  held-left : (t : Bool) (fs : List Part) → held t (flat (partBytes .spell) fs) (length fs) ≡ value (λ (l : List Part). (put 0 (flat (partBytes .spell) l) was, length l)) (was, items) (ask t 19 >> done fs)
-  held-left true fs = refl
-  held-left false fs = refl
-
   pub left-list : (a : FrameList) (q : Answer (List Part)) → Early q → Lists a q → listPut was items a ≡ listLeft partBytes was items (roomed partBytes was q)
   unfolding by
   left-list a (refused n) l e =
@@ -124,7 +120,7 @@ module _ (was : List ℕ) (items : ℕ) where
       let n = e .1 in
       let b = ap (λ (k : ℕ). flat rangeSpell (take k (a .frames))) n ∙ same-bytes fs (take (length fs) (a .frames)) (e .2 .parts) in
       let t = ap₂ (λ (j k : ℕ). leb k (length was / j)) (sym range-size) n in
-      sym (is-by was items a true (leb (a .len) (length was / 417)) (eq-eqb (a .code) 0 (e .0)) refl) ∙ (λ j. held (t j) (b j) (n j)) ∙ held-left (leb (length fs) (slotsIn partBytes was)) fs
+      sym (is-by was items a true (leb (a .len) (length was / 417)) (eq-eqb (a .code) 0 (e .0)) refl) ∙ (λ j. held (t j) (b j) (n j)) ∙ left-asked partBytes was items (leb (length fs) (slotsIn partBytes was)) fs
 
 list-chain : {A : Type 0} (t u : Bool) (x : A) → Early (ask t 3 >> (ask u 3 >> done x))
 list-chain true true x = tt

@@ -49,9 +49,14 @@ unfolding segmentBytes setBytes windowBytes framesBytes frameBytes
 segment-long s e = segment-held s e .long
 
 -- a segment that is there, and its form
-there : (o : Option Segment) → isSome o ≡ true → o ≡ some (segmentOf o)
+pub there : (o : Option Segment) → isSome o ≡ true → o ≡ some (segmentOf o)
 there none e = absurd (clash e refl)
 there (some s) e = refl
+
+-- its identifier has 16 bytes
+pub sid-long : (s : Segment) → segmentForm s ≡ true → length (s .sid) ≡ 16
+unfolding segmentForm
+sid-long s e = bytes-long 16 (s .sid) (search (and-fst, and-snd))
 
 there-form : (o : Option Segment) → isSome o ≡ true → given segmentForm o ≡ true → segmentForm (segmentOf o) ≡ true
 there-form none e h = absurd (clash e refl)
@@ -70,7 +75,7 @@ module _ (t : List ℕ) (ok : commitsOk t ≡ true) (i : ℕ) (l : i < countOf t
   row-log at p = sym (ap (λ (n : ℕ). commitBytes .read (part n 722 t) .log) (sym p) ∙ ap (λ (c : Commit). c .log) (commit-at t at))
 
   module _ (has : isSome (commitAt t i .segment) ≡ true) where
-    form : segmentForm (segmentOf (commitAt t i .segment)) ≡ true
+    pub form : segmentForm (segmentOf (commitAt t i .segment)) ≡ true
     unfolding commitForm
     form = there-form (commitAt t i .segment) has (let f = c-form in search (and-fst, and-snd))
 

@@ -3,7 +3,7 @@
 use Prim.Native.Nat.{ℕ}
 use mathlib.Core.Path.{_≡_, refl, sym, ap, _∙_}
 use mathlib.Core.List.{List}
-use mathlib.Core.Bool.{Bool, true, false}
+use mathlib.Core.Bool.{Bool, true}
 use native.Mathlib.Omega.{arith}
 use lib.Dec.{eqb}
 use lib.ListN.{length}
@@ -18,7 +18,8 @@ use Rattle.layout.specs.Codecs.{inForm}
 use Rattle.layout.specs.Records.{commitBytes, checkpointBytes, entryBytes}
 use Rattle.layout.specs.Tables.{commitsOk, checkpointsOk, indexOk, laidOver}
 use Rattle.layout.specs.Lent.{lent, after}
-use Rattle.writecalls.specs.Written.{IsCommit, commitIn, logsIn, logsOk, writeIn}
+use Rattle.writecalls.specs.declared.Plan.{Plan}
+use Rattle.writecalls.specs.Written.{IsCommit, commitIn, logsIn, logsOk, freshIn, planned, writeIn}
 use Rattle.writecalls.proofs.Plans.{bad-commits, bad-checkpoints, bad-index, wrong-size, zero-lsn, not-formed, is-commit, room-decides, no-room}
 
 module _ (cs ks es b : List ℕ) where
@@ -32,7 +33,7 @@ module _ (cs ks es b : List ℕ) where
   abbrev answer : Answer Logs
   answer = lent (logsOk cs ks es) (writeIn (logsIn cs ks es) b)
 
-  pub passed : code answer ≡ 0 → Passed
+  passed : code answer ≡ 0 → Passed
   passed h =
       cases (commitsOk cs) (λ c1.
       cases (checkpointsOk ks) (λ k1.
@@ -58,6 +59,23 @@ module _ (cs ks es b : List ℕ) where
     where
       not-0 : (k : ℕ) → k ≡ code answer → (k ≡ 0 → ⊥) → Passed
       not-0 k e z = absurd (z (e ∙ h))
+
+-- ---- a plan: its number is the answer's, and under 0 all checks have passed
+
+number-by : (a : Answer Logs) (k : ℕ) → planned a k .number ≡ code a
+number-by (refused n) k = refl
+number-by (done g) k = refl
+
+module _ (cs ks es b : List ℕ) (p : Plan) (e : p ≡ planned (answer cs ks es b) (freshIn es (commitIn b))) where
+  pub number-is : p .number ≡ code (answer cs ks es b)
+  number-is = ap (λ (x : Plan). x .number) e ∙ number-by (answer cs ks es b) (freshIn es (commitIn b))
+
+  module _ (z : p .number ≡ 0) where
+    pub plan-passed : Passed cs ks es b
+    plan-passed = passed cs ks es b (sym number-is ∙ z)
+
+    pub fresh-passed : p .fresh ≡ freshIn es (commitIn b)
+    fresh-passed = ap (λ (x : Plan). x .fresh) e ∙ ap (λ (a : Answer Logs). planned a (freshIn es (commitIn b)) .fresh) (plan-passed .answers)
 
 -- ---- what a call leaves
 

@@ -23,7 +23,8 @@ use Rattle.layout.specs.Lent.{lent}
 use Rattle.layout.proofs.LentLaws.{lent-no, lent-yes}
 use Rattle.rows.proofs.Rows.{formed-rules}
 use Rattle.rows.proofs.Tables.{commits, checkpoints, index}
-use Rattle.writecalls.specs.Written.{IsCommit, commitIn, logsIn, logsOk, writeIn}
+use Rattle.writecalls.specs.declared.Plan.{Plan}
+use Rattle.writecalls.specs.Written.{IsCommit, commitIn, logsIn, logsOk, freshIn, roomed, planned, writeIn}
 use Rattle.writecalls.proofs.Rows.{is-form}
 
 -- a commit in form has its lists in form
@@ -117,12 +118,22 @@ module _ (cs ks es b : List ℕ) where
                   ∙ ap (λ (y : Bool). after-20 true y (commitLists (commitIn b))) (ap (λ (x : List ℕ). commitLsns (commitIn x)) (sym all-of) ∙ l)
                   ∙ ap (after-20 true true) (form-lists (commitIn b) (is-form b is-commit))
 
-              -- ---- 19, and 0
+              -- ---- 19
               abbrev by-room : Bool → Answer Logs
               by-room r = ask r 19 >> done (write (logsIn cs ks es) (commitIn b))
 
               pub no-room : logsFit (write (logsIn cs ks es) (commitIn b)) ≡ false → 19 ≡ code answer
               no-room e = sym (ap code (room-decides ∙ ap by-room e))
 
-              pub goes : logsFit (write (logsIn cs ks es) (commitIn b)) ≡ true → 0 ≡ code answer
-              goes e = sym (ap code (room-decides ∙ ap by-room e))
+              -- the plan by room is the plan
+              pub room-plans : planned (roomed (write (logsIn cs ks es) (commitIn b))) (freshIn es (commitIn b)) ≡ planned answer (freshIn es (commitIn b))
+              room-plans = ap (λ (a : Answer Logs). planned a (freshIn es (commitIn b))) (sym room-decides)
+
+-- the plan of a number other than 0
+refusal : (a : Answer Logs) (n k : ℕ) → n ≡ code a → (n ≡ 0 → ⊥) → _≡_ {A = Plan} (record { number = n; fresh = 0 }) (planned a k)
+refusal (refused m) n k e z = ap (λ (x : ℕ). record { number = x; fresh = 0 }) e
+refusal (done g) n k e z = absurd (z e)
+
+module _ (cs ks es b : List ℕ) where
+  pub refused-by : (n : ℕ) → n ≡ code (answer cs ks es b) → (n ≡ 0 → ⊥) → _≡_ {A = Plan} (record { number = n; fresh = 0 }) (planned (answer cs ks es b) (freshIn es (commitIn b)))
+  refused-by n e z = refusal (answer cs ks es b) n (freshIn es (commitIn b)) e z

@@ -1,11 +1,10 @@
 -- What a commit in bytes adds, read field by field: the fields are those of the commit that all its bytes spell, so the rows that are counted and put in are
 -- those of the rules. What a commit in form adds is in form, so `rows` carries room and stores over.
 use Prim.Native.Nat.{ℕ, _+_, _≤_, _<_, Ordering}
-use mathlib.Core.Path.{_≡_, refl, sym, ap, ap₂, _∙_}
+use mathlib.Core.Path.{_≡_, sym, ap, ap₂, _∙_}
 use mathlib.Core.List.{List, map}
 use mathlib.Core.Option.{Option, none, some}
-use mathlib.Core.Bool.{Bool, true, _&&_}
-use lib.Dec.{leb}
+use mathlib.Core.Bool.{Bool, true}
 use lib.ListN.{length}
 use borrow.Author.Tests.{leb-true}
 use native.Mathlib.Omega.{arith}
@@ -28,7 +27,7 @@ use Rattle.table.specs.Table as B
 use Rattle.table.proofs.Checks.{well-two, well-count}
 use Rattle.batch.specs.Batch as Many
 use Rattle.batch.proofs.Puts.{room-news}
-use Rattle.layout.specs.Codecs.{Codec, inForm, listed, number}
+use Rattle.layout.specs.Codecs.{Codec, listed, number}
 use Rattle.layout.specs.Values.{setBytes, segmentBytes}
 use Rattle.layout.specs.Records.{checkpointBytes, entryBytes, commitBytes}
 use Rattle.layout.specs.Tables.{formedIn, tableIn, laidOver}
@@ -36,13 +35,13 @@ use Rattle.layout.proofs.HoldLaws.{in-form}
 use Rattle.setbytes.specs.Laid.{setLaid}
 use Rattle.setbytes.proofs.LaidLaws.{says-laid, laid-normal}
 use Rattle.segmentbytes.proofs.SegmentLaws.{segment-at}
-use Rattle.commitbytes.specs.Laid.{lsnSays, lsnsLaid}
+use Rattle.commitbytes.specs.Laid.{lsnsLaid}
 use Rattle.commitbytes.proofs.LsnLaws.{says-lsns}
 use Rattle.commitbytes.proofs.CommitLaws.{commit-at, segment-none, segment-there}
 use Rattle.rows.proofs.Rows.{Layout, formed-well}
 use Rattle.rows.proofs.Stores.{putAll-fits, putAll-laid}
 use Rattle.indexing.specs.Rows as I
-use Rattle.writecalls.specs.Written.{IsCommit, commitIn}
+use Rattle.writecalls.specs.Written.{IsCommit, commitIn, freshIn}
 
 -- ---- forms of what a commit adds
 
@@ -119,6 +118,10 @@ module _ (b : List ℕ) (ok : IsCommit b) where
           ap (λ (s : PageSet). I.entryRows log lsn (shown s)) es
           ∙ ap (I.entryRows log lsn) (says-laid (pagesOf (commitIn b .segment)))
           ∙ ap₂ (λ (g : List ℕ) (n : ℕ). I.entryRows g n (pagesOf (commitIn b .segment))) (el ∙ ap (λ (x : List ℕ). commitIn x .log) whole) (en ∙ ap (λ (x : List ℕ). commitIn x .lsn) whole)
+
+      -- those that are new
+      pub fresh-is : (t : List ℕ) → Many.news 29 (I.entryRows log lsn (shown set)) (recs 29 t) ≡ freshIn t (commitIn b)
+      fresh-is t = ap (λ (rs : List (List ℕ)). Many.news 29 rs (recs 29 t)) entry-rows
 
 -- ---- rows of records in form, put into a table or counted
 

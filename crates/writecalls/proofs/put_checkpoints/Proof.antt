@@ -1,5 +1,5 @@
 -- The rows that are put in are those of the commit's checkpoints: the laws `rows-fit` and `rows-laid`.
-use mathlib.Core.Path.{_≡_, sym, ap, _∙_}
+use mathlib.Core.Path.{_∙_}
 use Rattle.rows.proofs.Rows.{formed-well}
 use Rattle.writecalls.specs.Written.{commitIn}
 use Rattle.rules.specs.Write.{checkpointsOf}

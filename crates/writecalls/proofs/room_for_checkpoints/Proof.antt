@@ -1,5 +1,4 @@
 -- The rows that are counted are those of the commit's checkpoints, so room for the new ones is room for the store.
-use mathlib.Core.Path.{_≡_, sym, ap, _∙_}
 use Rattle.rows.proofs.Rows.{formed-well}
 use Rattle.writecalls.specs.Written.{commitIn}
 use Rattle.rules.specs.Write.{checkpointsOf}

@@ -1,6 +1,5 @@
 -- A number other than 0 leaves the bytes as found; under 0 all checks have passed, and the write is stored.
-use mathlib.Core.Path.{_≡_, sym, _∙_}
-use Rattle.writecalls.proofs.Ends.{passed, unchanged, changed}
+use Rattle.writecalls.proofs.Ends.{number-is, plan-passed, fresh-passed, unchanged, changed}
 use borrow.Author.Needs.{needs}
 use Rattle.writecalls.proofs.write_commit.Statement.{statement}
 use Rattle.writecalls.proofs.write_commit.Tie as tie
@@ -18,10 +17,10 @@ same-length-3 : tie.Need-same-length-3
 same-length-3 c = search needs
 
 returns : tie.Need-returns
-returns c = unchanged (c .before .before .before .before .before .before .before .before .before .args .commits .now) (c .before .before .before .before .before .before .before .before .before .args .checkpoints .now) (c .before .before .before .before .before .before .before .before .before .args .index .now) (c .before .write-plan .result) _ (c .before .write-plan .ensures) (c .if1 .taken)
+returns c = unchanged ((c .before .before .before .before .before .before .before .before .before) .args .commits .now) ((c .before .before .before .before .before .before .before .before .before) .args .checkpoints .now) ((c .before .before .before .before .before .before .before .before .before) .args .index .now) (c .before .write-plan .result .number) _ (number-is ((c .before .before .before .before .before .before .before .before .before) .args .commits .now) ((c .before .before .before .before .before .before .before .before .before) .args .checkpoints .now) ((c .before .before .before .before .before .before .before .before .before) .args .index .now) ((c .before .before .before .before .before .before .before .before .before) .args .c .now) (c .before .write-plan .result) (c .before .write-plan .ensures)) (c .if1 .taken)
 
-write-stored-requires : tie.Need-write-stored-requires
-write-stored-requires c κs = ((passed (c .before .before .before .before .before .before .before .before .before .before .before .before .args .commits .now) (c .before .before .before .before .before .before .before .before .before .before .before .before .args .checkpoints .now) (c .before .before .before .before .before .before .before .before .before .before .before .before .args .index .now) (c .before .before .before .before .before .before .before .before .before .before .before .before .args .c .now) (sym (c .before .before .before .before .write-plan .ensures) ∙ c .before .before .before .if1 .left)) .forms, ((passed (c .before .before .before .before .before .before .before .before .before .before .before .before .args .commits .now) (c .before .before .before .before .before .before .before .before .before .before .before .before .args .checkpoints .now) (c .before .before .before .before .before .before .before .before .before .before .before .before .args .index .now) (c .before .before .before .before .before .before .before .before .before .before .before .before .args .c .now) (sym (c .before .before .before .before .write-plan .ensures) ∙ c .before .before .before .if1 .left)) .commit, (passed (c .before .before .before .before .before .before .before .before .before .before .before .before .args .commits .now) (c .before .before .before .before .before .before .before .before .before .before .before .before .args .checkpoints .now) (c .before .before .before .before .before .before .before .before .before .before .before .before .args .index .now) (c .before .before .before .before .before .before .before .before .before .before .before .before .args .c .now) (sym (c .before .before .before .before .write-plan .ensures) ∙ c .before .before .before .if1 .left)) .room))
+write-fresh-requires : tie.Need-write-fresh-requires
+write-fresh-requires c κs = ((plan-passed ((c .before .before .before .before .before .before .before .before .before .before .before .before) .args .commits .now) ((c .before .before .before .before .before .before .before .before .before .before .before .before) .args .checkpoints .now) ((c .before .before .before .before .before .before .before .before .before .before .before .before) .args .index .now) ((c .before .before .before .before .before .before .before .before .before .before .before .before) .args .c .now) (c .before .before .before .before .write-plan .result) (c .before .before .before .before .write-plan .ensures) (c .before .before .before .if1 .left)) .forms, ((plan-passed ((c .before .before .before .before .before .before .before .before .before .before .before .before) .args .commits .now) ((c .before .before .before .before .before .before .before .before .before .before .before .before) .args .checkpoints .now) ((c .before .before .before .before .before .before .before .before .before .before .before .before) .args .index .now) ((c .before .before .before .before .before .before .before .before .before .before .before .before) .args .c .now) (c .before .before .before .before .write-plan .result) (c .before .before .before .before .write-plan .ensures) (c .before .before .before .if1 .left)) .commit, ((plan-passed ((c .before .before .before .before .before .before .before .before .before .before .before .before) .args .commits .now) ((c .before .before .before .before .before .before .before .before .before .before .before .before) .args .checkpoints .now) ((c .before .before .before .before .before .before .before .before .before .before .before .before) .args .index .now) ((c .before .before .before .before .before .before .before .before .before .before .before .before) .args .c .now) (c .before .before .before .before .write-plan .result) (c .before .before .before .before .write-plan .ensures) (c .before .before .before .if1 .left)) .room, fresh-passed ((c .before .before .before .before .before .before .before .before .before .before .before .before) .args .commits .now) ((c .before .before .before .before .before .before .before .before .before .before .before .before) .args .checkpoints .now) ((c .before .before .before .before .before .before .before .before .before .before .before .before) .args .index .now) ((c .before .before .before .before .before .before .before .before .before .before .before .before) .args .c .now) (c .before .before .before .before .write-plan .result) (c .before .before .before .before .write-plan .ensures) (c .before .before .before .if1 .left))))
 
 same-length-4 : tie.Need-same-length-4
 same-length-4 c = search needs
@@ -33,7 +32,7 @@ same-length-6 : tie.Need-same-length-6
 same-length-6 c = search needs
 
 returns-2 : tie.Need-returns-2
-returns-2 c = changed (c .before .before .before .before .before .before .before .before .before .before .before .before .before .before .before .before .before .before .before .args .commits .now) (c .before .before .before .before .before .before .before .before .before .before .before .before .before .before .before .before .before .before .before .args .checkpoints .now) (c .before .before .before .before .before .before .before .before .before .before .before .before .before .before .before .before .before .before .before .args .index .now) _ _ ((passed (c .before .before .before .before .before .before .before .before .before .before .before .before .before .before .before .before .before .before .before .args .commits .now) (c .before .before .before .before .before .before .before .before .before .before .before .before .before .before .before .before .before .before .before .args .checkpoints .now) (c .before .before .before .before .before .before .before .before .before .before .before .before .before .before .before .before .before .before .before .args .index .now) (c .before .before .before .before .before .before .before .before .before .before .before .before .before .before .before .before .before .before .before .args .c .now) (sym (c .before .before .before .before .before .before .before .before .before .before .before .write-plan .ensures) ∙ c .before .before .before .before .before .before .before .before .before .before .if1 .left)) .answers) _ _ _ (c .before .before .before .before .before .before .write-stored .ensures .0) (c .before .before .before .before .before .before .write-stored .ensures .1 .0) (c .before .before .before .before .before .before .write-stored .ensures .1 .1)
+returns-2 c = changed ((c .before .before .before .before .before .before .before .before .before .before .before .before .before .before .before .before .before .before .before) .args .commits .now) ((c .before .before .before .before .before .before .before .before .before .before .before .before .before .before .before .before .before .before .before) .args .checkpoints .now) ((c .before .before .before .before .before .before .before .before .before .before .before .before .before .before .before .before .before .before .before) .args .index .now) _ _ ((plan-passed ((c .before .before .before .before .before .before .before .before .before .before .before .before .before .before .before .before .before .before .before) .args .commits .now) ((c .before .before .before .before .before .before .before .before .before .before .before .before .before .before .before .before .before .before .before) .args .checkpoints .now) ((c .before .before .before .before .before .before .before .before .before .before .before .before .before .before .before .before .before .before .before) .args .index .now) ((c .before .before .before .before .before .before .before .before .before .before .before .before .before .before .before .before .before .before .before) .args .c .now) (c .before .before .before .before .before .before .before .before .before .before .before .write-plan .result) (c .before .before .before .before .before .before .before .before .before .before .before .write-plan .ensures) (c .before .before .before .before .before .before .before .before .before .before .if1 .left)) .answers) _ _ _ (c .before .before .before .before .before .before .write-fresh .ensures .0) (c .before .before .before .before .before .before .write-fresh .ensures .1 .0) (c .before .before .before .before .before .before .write-fresh .ensures .1 .1)
 
 pub write-commit-spec : {M : Type 1} → statement M
 write-commit-spec =
@@ -44,7 +43,7 @@ write-commit-spec =
     same-length-2
     same-length-3
     returns
-    write-stored-requires
+    write-fresh-requires
     same-length-4
     same-length-5
     same-length-6

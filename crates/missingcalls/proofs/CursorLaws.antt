@@ -1,0 +1,173 @@
+-- A listing, step by step. What is left at a cursor is what is left of the record that is listed, then the missing frames of the items from the next number on; an item's own are
+-- those of its segment by its gift. A step finds the first of what is left. Assumes nothing.
+use Prim.Native.Nat.{ℕ, zero, suc, _+_, _-_, _*_, _<_, _≤_}
+use mathlib.Core.Path.{_≡_, refl, sym, ap, _∙_, subst}
+use mathlib.Core.List.{List, [], _∷_, _++_}
+use mathlib.Core.Option.{Option, none, some}
+use mathlib.Core.Bool.{Bool, true, false, _&&_}
+use native.Mathlib.Omega.{arith}
+use borrow.Author.Tests.{leb-true, leb-false, le-leb, lt-leb}
+use lib.Dec.{leb}
+use lib.ListN.{length, length-append}
+use Rattle.pageset.specs.Sets.{shown, normal}
+use Rattle.rules.specs.Lists.{those, given, isSome}
+use Rattle.rules.specs.Records as R
+use Rattle.rules.specs.Pages.{isEmpty}
+use Rattle.rules.specs.Forms.{startPage, segmentForm, listsForm, framesForm, commitForm}
+use Rattle.rules.specs.Tables.{Table}
+use Rattle.rules.specs.Frames.{Part, partsFrom, partsOf}
+use Rattle.rules.specs.Walk.{Item, gift, itemOf, walkFrom, isMissing, missingOf}
+use Rattle.rules.proofs.TableLaws.{cases, and-fst, and-snd}
+use Rattle.table.specs.Table.{countOf}
+use Rattle.layout.specs.Tables.{commitsOk}
+use Rattle.rows.proofs.Checks.{row-form}
+use Rattle.rows.proofs.Tables.{commits}
+use Rattle.commit.specs.Says.{rangeSays}
+use Rattle.commits.specs.Places.{commitAt}
+use Rattle.commits.specs.declared.Place.{Place}
+use Rattle.commits.specs.declared.Place.the-variants.{At, Missing}
+use Rattle.arguments.proofs.SetLaws.{empty-normal}
+use Rattle.gifts.specs.Paths.{Below, Inside, commitsAt}
+use Rattle.gifts.specs.Steps.{itemsFrom}
+use Rattle.gifts.specs.declared.Step.{Step as Gift}
+use Rattle.gifts.proofs.WalkLaws.{Stepped}
+use Rattle.missingcalls.specs.declared.Cursor.{Cursor}
+use Rattle.missingcalls.specs.declared.Missing.{Missing as Step}
+use Rattle.missingcalls.specs.declared.FrameStep.{FrameStep}
+use Rattle.missingcalls.specs.Cursors.{framesAt, framesLeft, Fit, FrameBy, NextFrame, SoundAt, Sound, startCursor, leftAt, missingLeft, StepBy, NextMissing}
+
+-- ---- what a step says where it finds a frame, and where it finds none
+
+module _ (ps : Table R.Present) (g : R.Pages) (fs : List Part) (j : ℕ) (s : FrameStep) (h : NextFrame ps g fs j s) where
+  pub frame-found : s .found ≡ true → (framesLeft ps g fs j ≡ rangeSays (s .range) ∷ framesLeft ps g fs (s .frame)) × Fit (s .range)
+  frame-found e = subst (λ (b : Bool). FrameBy b (framesLeft ps g fs j) (s .range) (framesLeft ps g fs (s .frame))) e (h .next)
+
+  pub frame-lacks : s .found ≡ false → framesLeft ps g fs j ≡ []
+  frame-lacks e = subst (λ (b : Bool). FrameBy b (framesLeft ps g fs j) (s .range) (framesLeft ps g fs (s .frame))) e (h .next)
+
+module _ (t : List ℕ) (ps : Table R.Present) (count : ℕ) (places : List ℕ) where
+  module _ (all : List Part) (s : Step) (h : NextMissing t ps count places all s) where
+    pub step-found : s .found ≡ true → (all ≡ rangeSays (s .range) ∷ missingLeft t ps count places (s .rest)) × (Fit (s .range) × Sound t (s .rest))
+    step-found e = subst (λ (b : Bool). StepBy t ps count places b all s) e (h .next)
+
+    pub step-lacks : s .found ≡ false → all ≡ []
+    step-lacks e = subst (λ (b : Bool). StepBy t ps count places b all s) e (h .next)
+
+  pub same-left : (a b : List Part) (s : Step) → a ≡ b → NextMissing t ps count places a s → NextMissing t ps count places b s
+  same-left a b s e h = subst (λ (x : List Part). NextMissing t ps count places x s) e h
+
+  -- ---- the start
+
+  pub start-left : missingLeft t ps count places startCursor ≡ missingOf ps (itemsFrom t count places 0)
+  unfolding missingLeft
+  start-left = refl
+
+  pub start-sound : Sound t startCursor
+  start-sound = record { place = tt; gift = empty-normal }
+
+  -- ---- a cursor
+
+  abbrev later : ℕ → List Part
+  later k = missingOf ps (itemsFrom t count places k)
+
+  -- no record is listed
+  pub left-none : (c : Cursor) → c .at ≡ Missing → later (c .next) ≡ missingLeft t ps count places c
+  unfolding missingLeft
+  left-none c e = sym (ap (λ (x : Place). leftAt t ps x (shown (c .gift)) (c .frame) ++ later (c .next)) e)
+
+  left-is : (c : Cursor) (i : ℕ) → c .at ≡ At i → missingLeft t ps count places c ≡ framesLeft ps (shown (c .gift)) (framesAt t i) (c .frame) ++ later (c .next)
+  unfolding missingLeft
+  left-is c i e = ap (λ (x : Place). leftAt t ps x (shown (c .gift)) (c .frame) ++ later (c .next)) e
+
+  -- nothing is left of the record
+  pub left-past : (c : Cursor) (i : ℕ) → c .at ≡ At i → framesLeft ps (shown (c .gift)) (framesAt t i) (c .frame) ≡ [] → later (c .next) ≡ missingLeft t ps count places c
+  left-past c i e h = sym (left-is c i e ∙ ap (λ (l : List Part). l ++ later (c .next)) h)
+
+  pub sound-at : (c : Cursor) (i : ℕ) → Sound t c → c .at ≡ At i → SoundAt t (At i)
+  sound-at c i h e = subst (SoundAt t) e (h .place)
+
+  -- a frame of it is found
+  module _ (i : ℕ) (c : Cursor) (d : SoundAt t (At i)) (n : normal (c .gift) ≡ true) (f : FrameStep) (h : NextFrame ps (shown (c .gift)) (framesAt t i) (c .frame) f) (y : f .found ≡ true) where
+    abbrev rest : Cursor
+    rest = record { at = At i; gift = c .gift; frame = f .frame; next = c .next }
+
+    abbrev told : Step
+    told = record { found = true; range = f .range; rest = rest }
+
+    front : framesLeft ps (shown (c .gift)) (framesAt t i) (c .frame) ++ later (c .next) ≡ rangeSays (f .range) ∷ missingLeft t ps count places rest
+    unfolding missingLeft
+    front = ap (λ (l : List Part). l ++ later (c .next)) (frame-found ps (shown (c .gift)) (framesAt t i) (c .frame) f h y .0)
+
+    tells : (all : List Part) → all ≡ framesLeft ps (shown (c .gift)) (framesAt t i) (c .frame) ++ later (c .next) → NextMissing t ps count places all told
+    tells all e = record { next = (e ∙ front, (frame-found ps (shown (c .gift)) (framesAt t i) (c .frame) f h y .1, record { place = d; gift = n })) }
+
+    pub left-here : c .at ≡ At i → NextMissing t ps count places (missingLeft t ps count places c) told
+    left-here e = tells (missingLeft t ps count places c) (left-is c i e)
+
+  -- ---- the items of the path
+
+  module _ (ok : commitsOk t ≡ true) (inside : Inside t places) (k : ℕ) (s : Gift) (i : ℕ) (h : Stepped t places ok inside count k s i) where
+    item-left : later k ≡ framesLeft ps (shown (s .gift)) (framesAt t i) 0 ++ later (s .next)
+    item-left = ap (missingOf ps) (h .items)
+
+    -- the item has none
+    pub item-past : framesLeft ps (shown (s .gift)) (framesAt t i) 0 ≡ [] → later k ≡ later (s .next)
+    item-past e = item-left ∙ ap (λ (l : List Part). l ++ later (s .next)) e
+
+    pub item-sound : SoundAt t (At i)
+    item-sound = (h .below, h .has)
+
+    -- the item's first
+    pub item-here : (all : List Part) → all ≡ later k → (f : FrameStep) → NextFrame ps (shown (s .gift)) (framesAt t i) 0 f → f .found ≡ true
+        → NextMissing t ps count places all (record { found = true; range = f .range; rest = record { at = At i; gift = s .gift; frame = f .frame; next = s .next } })
+    item-here all e f m y = tells i (record { at = At i; gift = s .gift; frame = 0; next = s .next }) item-sound (h .normal) f m y all (e ∙ item-left)
+
+  -- ---- room
+
+  module _ (all : List Part) (x : Part) (rest : List Part) (left : ℕ) (e : all ≡ x ∷ rest) where
+    pub no-place-left : left ≡ 0 → leb (length all) left ≡ false
+    no-place-left z = lt-leb (length all) left (omega (arith, ap length e))
+
+    pub one-less : (left ≡ 0 → ⊥) → leb (length all) left ≡ leb (length rest) (left - 1)
+    one-less z =
+        let l = ap length e in
+        cases (leb (length rest) (left - 1))
+        (λ q. le-leb (length all) left (omega (arith, z, leb-true (length rest) (left - 1) q)) ∙ sym q)
+        (λ q. lt-leb (length all) left (omega (arith, z, leb-false (length rest) (left - 1) q)) ∙ sym q)
+
+-- ---- how many there are at most: 16 for each commit
+
+those-few : {A : Type 0} (f : A → Bool) (l : List A) → length (those f l) ≤ length l
+unfolding those
+those-few f [] = omega arith
+those-few f (x ∷ l) = let r = those-few f l in cases (f x) (λ e. rw e (omega arith)) (λ e. rw e (omega arith))
+
+parts-long : (s : R.Segment) (byte page : ℕ) (fs : List R.Frame) → length (partsFrom s byte page fs) ≡ length fs
+parts-long s byte page [] = refl
+parts-long s byte page (f ∷ fs) = ap suc (parts-long s (byte + f .size) (f .last + 1) fs)
+
+parts-few : (s : R.Segment) → segmentForm s ≡ true → length (partsOf s) ≤ 16
+unfolding partsOf segmentForm listsForm framesForm
+parts-few s e =
+    let q : leb (length (s .frames)) 16 ≡ true = search (and-fst, and-snd) in
+    omega (arith, parts-long s 0 (startPage (s .pages)) (s .frames), leb-true (length (s .frames)) 16 q)
+
+item-few : (ps : Table R.Present) (c : R.Commit) (o : Option R.Segment) (g : R.Pages) (l : List Item) → given segmentForm o ≡ true → length (missingOf ps (itemOf c o g ++ l)) ≤ 16 + length (missingOf ps l)
+item-few ps c none g l h = omega arith
+item-few ps c (some s) g l h =
+    cases (isEmpty g) (λ e. rw e (omega arith))
+    (λ e. rw e (omega (arith, length-append (those (isMissing ps g) (partsOf s)) (missingOf ps l), those-few (isMissing ps g) (partsOf s), parts-few s h)))
+
+walk-few : (ps : Table R.Present) (t : List ℕ) (ok : commitsOk t ≡ true) (count : ℕ) (earlier : List R.Commit) (places : List ℕ) → Below (countOf t) places
+    → length (missingOf ps (walkFrom count earlier (commitsAt t places))) ≤ 16 * length places
+unfolding commitForm
+walk-few ps t ok count earlier [] b = omega arith
+walk-few ps t ok count earlier (p ∷ places) b =
+    let c = commitAt t p in
+    let f = row-form commits t ok p (b .0) in
+    let s : given segmentForm (c .segment) ≡ true = search (and-fst, and-snd) in
+    omega (arith, item-few ps c (c .segment) (gift count earlier c) (walkFrom count (c ∷ earlier) (commitsAt t places)) s, walk-few ps t ok count (c ∷ earlier) places (b .1))
+
+pub missing-few : (ps : Table R.Present) (t places : List ℕ) (count : ℕ) → commitsOk t ≡ true → Inside t places → length (missingOf ps (itemsFrom t count places 0)) < 4294967296
+unfolding itemsFrom
+missing-few ps t places count ok i = omega (arith, walk-few ps t ok count [] places (i .below), i .few)
