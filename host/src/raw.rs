@@ -97,6 +97,7 @@ unsafe extern "C" {
     pub(crate) fn sigatuda_search(commits: *const u8, commits_len: usize, index: *const u8, index_len: usize, snapshot: *const u8, snapshot_len: usize, page: u32, out: *mut u8, out_len: usize) -> Reply;
     pub(crate) fn sigatuda_walk(commits: *const u8, commits_len: usize, snapshot: *const u8, snapshot_len: usize, list: *mut u8, list_len: usize, items: *mut u32) -> Reply;
     // over tables: saving and sending
+    pub(crate) fn sigatuda_save(volumes: *const u8, volumes_len: usize, commits: *mut u8, commits_len: usize, checkpoints: *mut u8, checkpoints_len: usize, index: *mut u8, index_len: usize, presence: *mut u8, presence_len: usize, vid: *const [u8; 16], snapshot: *const u8, snapshot_len: usize, count: u32, sid: *const [u8; 16], pages: *const u8, pages_len: usize, out: *mut u8, out_len: usize) -> Reply;
     pub(crate) fn sigatuda_sync(volumes: *mut u8, volumes_len: usize, commits: *const u8, commits_len: usize, vid: *const [u8; 16]) -> Reply;
     pub(crate) fn sigatuda_prepare(volumes: *mut u8, volumes_len: usize, commits: *const u8, commits_len: usize, vid: *const [u8; 16], local: u64, commit: u64, hash: *const [u8; 32]) -> Reply;
     pub(crate) fn sigatuda_success(volumes: *mut u8, volumes_len: usize, commits: *mut u8, commits_len: usize, checkpoints: *mut u8, checkpoints_len: usize, index: *mut u8, index_len: usize, vid: *const [u8; 16], commit: *const u8, commit_len: usize) -> Reply;

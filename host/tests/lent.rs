@@ -428,6 +428,15 @@ fn walk() {
 }
 
 #[test]
+fn save() {
+    let earns = |a: &Args| vec![judge::snapshot(&a.snapshot), judge::set(&a.set)];
+    let lent = [VOLUMES, COMMITS, CHECKPOINTS, INDEX, PRESENCE];
+    hold(&lent, Place::Record(262), &[4, 7, 18, 5, 19], earns, |[v, _, c, k, i, p], a, out, _| {
+        plain::save(v, c, k, i, p, &a.vid, &a.snapshot, a.page, &a.sid, &a.set, out)
+    });
+}
+
+#[test]
 fn sync() {
     hold(&[VOLUMES, COMMITS], Place::None, &[4, 16, 8], none, |[v, _, c, ..], a, _, _| plain::sync(v, c, &a.vid));
 }

@@ -148,7 +148,7 @@ pub fn commit_form(b: &[u8]) -> bool {
 /// Nanoseconds of the best round of two calls, made in turn.
 pub fn race(mut ours: impl FnMut() -> bool, mut rust: impl FnMut() -> bool) -> (f64, f64) {
     let (mut a, mut b) = (f64::MAX, f64::MAX);
-    for _ in 0..60 {
+    for _ in 0..100 {
         let start = Instant::now();
         for _ in 0..8 {
             assert!(black_box(ours()));
@@ -306,7 +306,7 @@ fn place_below(index: &[u8], high: usize, key: &[u8; 29]) -> Result<usize, usize
 /// Nanoseconds of the best round of two stores, made in turn; before each the tables are put back, outside of the time.
 pub fn race_stores<T: Clone>(fresh: &T, mut ours: impl FnMut(&mut T) -> bool, mut rust: impl FnMut(&mut T) -> bool) -> (f64, f64) {
     let (mut a, mut b, mut tables) = (f64::MAX, f64::MAX, fresh.clone());
-    for _ in 0..60 {
+    for _ in 0..400 {
         tables.clone_from(fresh);
         let start = Instant::now();
         assert!(black_box(ours(&mut tables)));

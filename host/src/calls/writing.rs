@@ -1,6 +1,6 @@
 //! Calls that make volumes and commits.
-use super::done;
-use crate::{Commit, LogId, Refusal, Tables, VolumeId, plain};
+use super::{done, written};
+use crate::{Commit, LogId, PageCount, PageSet, Refusal, SegmentId, Snapshot, Tables, VolumeId, plain};
 
 /// What a caller asks of the volume that is opened; a spare stands in for each part that is not asked.
 #[derive(Clone, Copy, Debug, Default, PartialEq, Eq)]
@@ -25,5 +25,21 @@ impl Tables<'_> {
     pub fn write_commit(&mut self, commit: &Commit) -> Result<(), Refusal> {
         let (commits, checkpoints, index) = (self.commits.as_mut_bytes(), self.checkpoints.as_mut_bytes(), self.index.as_mut_bytes());
         done(plain::write_commit(commits, checkpoints, index, &commit.to_bytes()))
+    }
+
+    /// Saves pages as the volume's next local commit and answers the snapshot afterwards, in commits, checkpoints, index and presence, of volumes:
+    /// 20, 2, 4, 7, 18, 5, 19.
+    pub fn save(
+        &mut self,
+        vid: VolumeId,
+        snapshot: &Snapshot,
+        count: PageCount,
+        sid: SegmentId,
+        pages: &PageSet,
+    ) -> Result<Snapshot, Refusal> {
+        let (commits, checkpoints) = (self.commits.as_mut_bytes(), self.checkpoints.as_mut_bytes());
+        let (index, presence, volumes) = (self.index.as_mut_bytes(), self.presence.as_mut_bytes(), self.volumes.as_bytes());
+        let (snapshot, pages) = (snapshot.to_bytes(), pages.to_bytes());
+        written(|out| plain::save(volumes, commits, checkpoints, index, presence, &vid.0, &snapshot, count.0, &sid.0, &pages, out))
     }
 }

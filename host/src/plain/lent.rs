@@ -170,6 +170,46 @@ pub fn walk(commits: &[u8], snapshot: &[u8], list: &mut [u8], items: &mut u32) -
     unsafe { raw::sigatuda_walk(commits.as_ptr(), commits.len(), snapshot.as_ptr(), snapshot.len(), list.as_mut_ptr(), list.len(), items) }
 }
 
+/// Saves pages of a segment as the volume's next local commit, and answers the snapshot afterwards: 20, 1, 2, 3, 3 for `out`, 4, 7, 18, 5, 19.
+#[allow(clippy::too_many_arguments)]
+pub fn save(
+    volumes: &[u8],
+    commits: &mut [u8],
+    checkpoints: &mut [u8],
+    index: &mut [u8],
+    presence: &mut [u8],
+    vid: &[u8; 16],
+    snapshot: &[u8],
+    count: u32,
+    sid: &[u8; 16],
+    pages: &[u8],
+    out: &mut [u8],
+) -> Reply {
+    unsafe {
+        raw::sigatuda_save(
+            volumes.as_ptr(),
+            volumes.len(),
+            commits.as_mut_ptr(),
+            commits.len(),
+            checkpoints.as_mut_ptr(),
+            checkpoints.len(),
+            index.as_mut_ptr(),
+            index.len(),
+            presence.as_mut_ptr(),
+            presence.len(),
+            vid,
+            snapshot.as_ptr(),
+            snapshot.len(),
+            count,
+            sid,
+            pages.as_ptr(),
+            pages.len(),
+            out.as_mut_ptr(),
+            out.len(),
+        )
+    }
+}
+
 /// Moves the volume's sync point to the remote's latest: 20, 4, 16, 8.
 pub fn sync(volumes: &mut [u8], commits: &[u8], vid: &[u8; 16]) -> Reply {
     unsafe { raw::sigatuda_sync(volumes.as_mut_ptr(), volumes.len(), commits.as_ptr(), commits.len(), vid) }

@@ -14,7 +14,7 @@ macro_rules! calls {
         pub enum Op { $($op),* }
 
         impl Op {
-            pub const ALL: &'static [Op] = &[Op::VolumeRead, Op::VolumeExists, Op::VolumeDelete, Op::Drop, Op::TagRead, Op::TagExists, Op::TagDelete, Op::TagReplace, Op::CommitRead, Op::LatestCommit, Op::LatestLsn, Op::PageCount, Op::CheckpointAt, Op::PagePresent, Op::PageMark, Op::PageRemove, Op::PagesRemove, Op::Snapshot, Op::LatestCheck, Op::Search, Op::VolumeList, Op::TagList, Op::StoredLsns, Op::SnapshotCommits, Op::Walk, Op::WriteCommit, Op::Sync, Op::Prepare, Op::Success, Op::Recover];
+            pub const ALL: &'static [Op] = &[Op::VolumeRead, Op::VolumeExists, Op::VolumeDelete, Op::Drop, Op::TagRead, Op::TagExists, Op::TagDelete, Op::TagReplace, Op::CommitRead, Op::LatestCommit, Op::LatestLsn, Op::PageCount, Op::CheckpointAt, Op::PagePresent, Op::PageMark, Op::PageRemove, Op::PagesRemove, Op::Snapshot, Op::LatestCheck, Op::Search, Op::VolumeList, Op::TagList, Op::StoredLsns, Op::SnapshotCommits, Op::Walk, Op::WriteCommit, Op::Save, Op::Sync, Op::Prepare, Op::Success, Op::Recover];
 
             pub fn name(self) -> &'static str {
                 match self { $(Op::$op => $name),* }
@@ -201,7 +201,7 @@ fn run_write(op: Op, a: &Args, tables: &mut Six, out: &mut [u8]) -> Reply {
     match op {
         Op::Open => unreachable!("not exported yet"),
         Op::WriteCommit => plain::write_commit(c, k, i, &a.commit),
-        Op::Save => unreachable!("not exported yet"),
+        Op::Save => plain::save(v, c, k, i, p, &a.vid, &a.snapshot, a.count, &a.sid, &a.set, out),
         Op::Sync => plain::sync(v, c, &a.vid),
         Op::Prepare => plain::prepare(v, c, &a.vid, a.lsn, a.end, &a.hash),
         Op::Success => plain::success(v, c, k, i, &a.vid, &a.commit),
