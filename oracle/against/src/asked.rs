@@ -1,9 +1,11 @@
 //! A call over tables, answered by the original. Where it panics, the panic's place is one of document 01's numbers, as in `harness::original`; its
 //! errors are 4, 6, 7 and 8. Arguments are in form here, and no identifier that it would draw is in use (`earned.rs` has those numbers).
 use crate::calls::{Answer, Args, BEFORE, ITEMS_BEFORE, Id, Op};
-use crate::tables::{commit_of, lsn_of, segment_of, to_commit, to_hash, volume_of};
+use crate::tables::{commit_of, segment_of, to_commit, to_hash, volume_of};
+use graft::core::commit::SegmentIdx;
 use graft::core::lsn::LSN;
 use graft::core::page::Page;
+use graft::core::pageset::PageSet;
 use graft::core::{LogId, PageCount, PageIdx, SegmentId, VolumeId, logref::LogRef};
 use graft::err::LogicalErr;
 use graft::local::fjall_storage::{FjallStorage, FjallStorageErr};
@@ -161,31 +163,30 @@ fn told_list(op: Op, a: &Args, storage: &FjallStorage) -> Asked {
     }))
 }
 
-/// The original's walk, each item with its commit. The original leaves the commit out, so it is found by plain sets of pages, and the gifts must be
-/// the original's.
+/// The original's walk, each item with its commit's log and LSN. The original leaves these out, so the commits that give something are found by plain
+/// sets of pages.
 fn walk(snapshot: &Snapshot, storage: &FjallStorage) -> Result<Vec<Vec<u8>>, FjallStorageErr> {
     let reads = storage.reads();
-    let mut gifts = reads.iter_visible_pages(snapshot).collect::<Result<Vec<_>, _>>()?.into_iter();
-    let (mut taken, mut items) = (BTreeSet::<u32>::new(), vec![]);
+    let (mut taken, mut givers) = (BTreeSet::<u32>::new(), vec![]);
     for commit in reads.commits(snapshot) {
         let commit = commit?;
         let Some(segment) = &commit.segment_idx else { continue };
-        let within = |p: &PageIdx| p.to_u32() <= snapshot.page_count.to_u32();
-        let new: Vec<u32> = segment.pageset.iter().filter(within).map(|p| p.to_u32()).filter(|p| !taken.contains(p)).collect();
-        taken.extend(&new);
-        if new.is_empty() {
-            continue;
+        let pages = segment.pageset.iter().map(|p| p.to_u32()).filter(|&p| p <= snapshot.page_count.to_u32());
+        let held = taken.len();
+        taken.extend(pages);
+        if taken.len() > held {
+            givers.push((commit.log.bytes(), commit.lsn.to_u64()));
         }
-        let (idx, gift) = gifts.next().expect("the original's walk has an item for each gift");
-        assert!(idx == *segment && gift.iter().map(|p| p.to_u32()).eq(new), "the original's walk gives what no earlier commit took");
-        let mut item = commit.log.bytes().to_vec();
-        item.extend(lsn_of(commit.lsn).get().to_be_bytes());
-        item.extend(segment_of(segment).to_bytes());
-        item.extend(forms::of_set(&gift).expect("at most 32 windows"));
-        items.push(item);
     }
-    assert!(gifts.next().is_none(), "the original's walk has no other items");
-    Ok(items)
+    let gifts = reads.iter_visible_pages(snapshot).collect::<Result<Vec<_>, _>>()?;
+    let item = |(i, (idx, gift)): (usize, &(SegmentIdx, PageSet))| {
+        let (log, lsn) = givers.get(i).copied().unwrap_or_default();
+        let mut item = [&log[..], &lsn.to_be_bytes()].concat();
+        item.extend(segment_of(idx).to_bytes());
+        item.extend(forms::of_set(gift).expect("at most 32 windows"));
+        item
+    };
+    Ok(gifts.iter().enumerate().map(item).collect())
 }
 
 fn told_tag(op: Op, a: &Args, storage: &FjallStorage) -> Asked {
