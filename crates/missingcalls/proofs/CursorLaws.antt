@@ -1,16 +1,16 @@
 -- A listing, step by step. What is left at a cursor is what is left of the record that is listed, then the missing frames of the items from the next number on; an item's own are
 -- those of its segment by its gift. A step finds the first of what is left. Assumes nothing.
-use Prim.Native.Nat.{ℕ, zero, suc, _+_, _-_, _*_, _<_, _≤_}
+use Prim.Native.Nat.{ℕ, suc, _+_, _-_, _*_, _<_, _≤_}
 use mathlib.Core.Path.{_≡_, refl, sym, ap, _∙_, subst}
 use mathlib.Core.List.{List, [], _∷_, _++_}
 use mathlib.Core.Option.{Option, none, some}
-use mathlib.Core.Bool.{Bool, true, false, _&&_}
+use mathlib.Core.Bool.{Bool, true, false}
 use native.Mathlib.Omega.{arith}
 use borrow.Author.Tests.{leb-true, leb-false, le-leb, lt-leb}
 use lib.Dec.{leb}
 use lib.ListN.{length, length-append}
 use Rattle.pageset.specs.Sets.{shown, normal}
-use Rattle.rules.specs.Lists.{those, given, isSome}
+use Rattle.rules.specs.Lists.{those, given}
 use Rattle.rules.specs.Records as R
 use Rattle.rules.specs.Pages.{isEmpty}
 use Rattle.rules.specs.Forms.{startPage, segmentForm, listsForm, framesForm, commitForm}
@@ -22,7 +22,7 @@ use Rattle.table.specs.Table.{countOf}
 use Rattle.layout.specs.Tables.{commitsOk}
 use Rattle.rows.proofs.Checks.{row-form}
 use Rattle.rows.proofs.Tables.{commits}
-use Rattle.commit.specs.Says.{rangeSays, IsRange}
+use Rattle.commit.specs.Says.{rangeSays}
 use Rattle.commit.proofs.RecordLaws.{one-range}
 use Rattle.commits.specs.Places.{commitAt}
 use Rattle.commits.specs.declared.Place.{Place}
