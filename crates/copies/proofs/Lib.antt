@@ -1,1 +1,2 @@
 pub mod CopyRows
+pub mod Storings
