@@ -79,7 +79,8 @@ module _ (t : List ℕ) (ok : commitsOk t ≡ true) (row : ℕ) (h : row < count
       → IsCommit v × (commitIn v ≡ renumber log lsn (commitAt t row))
   copy-is v key u at ea eu ek ev =
       let e : v ≡ commitBytes .spell (renumber log lsn (commitAt t row)) =
-          ev ∙ ap₂ (put 0) ek (eu ∙ ap (λ (n : ℕ). part n 722 t) ea) ∙ copy-spelled in
-      let x = commits .holds (renumber log lsn (commitAt t row)) copy-form in
-      ((ap (length {A = ℕ}) e ∙ long-is commits (renumber log lsn (commitAt t row)) copy-form, ap (inForm commitBytes commitForm) e ∙ held-form commitBytes commitForm x copy-form),
-      ap (commitBytes .read) e ∙ x .back)
+      ev ∙ ap₂ (put 0) ek (eu ∙ ap (λ (n : ℕ). part n 722 t) ea) ∙ copy-spelled in
+      let x = commits .holds (renumber log lsn (commitAt t row)) copy-form in (
+        (ap (length {A = ℕ}) e ∙ long-is commits (renumber log lsn (commitAt t row)) copy-form, ap (inForm commitBytes commitForm) e ∙ held-form commitBytes commitForm x copy-form),
+        ap (commitBytes .read) e ∙ x .back,
+      )

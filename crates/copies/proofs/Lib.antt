@@ -1,2 +1,3 @@
 pub mod CopyRows
 pub mod Storings
+pub mod Copying
