@@ -143,7 +143,7 @@ module _ (cs ks es : List ℕ) (left : Left) (log : Id) where
   abbrev pub endIndex : Table Entry
   endIndex = storeAll entryKey logPageLsn (each entriesOf copies) (indexIn es)
 
-  fit-parts : logsFit (writeAll (logsIn cs ks es) copies) ≡ (fits endCommits && fits endCheckpoints && fits endIndex)
+  pub fit-parts : logsFit (writeAll (logsIn cs ks es) copies) ≡ (fits endCommits && fits endCheckpoints && fits endIndex)
   unfolding logsFit
   fit-parts = rw (commits-all (logsIn cs ks es) copies, checkpoints-all (logsIn cs ks es) copies, index-all (logsIn cs ks es) copies) refl
 

@@ -1,4 +1,6 @@
-// Copies of a path's commits in a new local log: a copy's bytes, whether the tables have room for all of them, and all of them written. N commits in path order become N down to 1.
+// Copies of a path's commits in a new local log: a copy's bytes, and all of them written. N commits in path order become N down to 1. `room` counts what they add.
+pub mod room;
+
 use core::id::LogId;
 use paths::Left;
 use paths::next_commit;
