@@ -80,7 +80,8 @@ fn set(pages: &[u32]) -> Result<PageSet, Refusal> {
     pages.iter().try_fold(PageSet::EMPTY, |mut set, &n| set.insert(PageIdx::new(n)?).map(|_| set))
 }
 
-fn main() -> Result<(), Refusal> {
+/// The day; tests/day.rs lives it too.
+pub fn main() -> Result<(), Refusal> {
     let mut one = Tester::open(1)?;
     one.save(0x51, &[1, 2, 3])?;
     one.tell("Tester 1 saves three pages of readings.")?;

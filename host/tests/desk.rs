@@ -107,17 +107,17 @@ fn tables_in_form() {
     folder.put_books(&full_books());
     let (well, out, _) = folder.desk(["check", "volumes", "tags", "commits", "checkpoints", "index", "presence"]);
     let expected = "\
-volumes: ok, 1 of 1 records of volumes; it is full, and a call that needs room in it is refused with 19
-tags: ok, 1 of 4 records of tags
-commits: ok, 2 of 8 records of commits
-checkpoints: ok, 2 of 4 records of checkpoints
-index: ok, 4 of 500 records of index
-presence: ok, 1 of 500 records of presence
+volumes: ok, 1 of 1 volumes: it is full, and a call that needs room in it is refused with 19
+tags: ok, 1 of 4 tags
+commits: ok, 2 of 8 commits
+checkpoints: ok, 2 of 4 checkpoints
+index: ok, 4 of 500 index entries
+presence: ok, 1 of 500 present pages
 ";
     assert_eq!((well, out.as_str()), (true, expected));
     folder.put("tester-7.Tags.bin", &[0, 0]);
     let (well, out, _) = folder.desk(["check", "tester-7.Tags.bin", "index=tags"]);
-    assert!(!well && out.starts_with("tester-7.Tags.bin: ok, 0 of 0 records of tags; it is full"), "{out}");
+    assert!(!well && out.starts_with("tester-7.Tags.bin: ok, 0 of 0 tags: it is full"), "{out}");
     assert!(out.contains("tags: 20, index entry 1, "), "another kind is said before the name: {out}");
 }
 
@@ -173,26 +173,32 @@ fn the_place_that_breaks_the_form() {
     assert_eq!(out.lines().count(), cases.len());
     folder.put("short.index", &[0]);
     folder.put("cut.index", &tables[index][..60]);
-    let (_, out, _) = folder.desk(["check", "short.index", "cut.index"]);
+    let mut sizes = tables[commits].to_vec();
+    sizes[724 + 465..724 + 473].fill(255);
+    folder.put("sizes.commits", &sizes);
+    let (_, out, _) = folder.desk(["check", "short.index", "cut.index", "sizes.commits"]);
     let said = "short.index: 20, count: a table starts with two bytes of count (byte 0 of the file)\n\
-                cut.index: 20, count: it says 4, and only 2 fit: the file may be cut short (byte 0 of the file)\n";
+                cut.index: 20, count: it says 4, and only 2 fit: the file may be cut short (byte 0 of the file)\n\
+                sizes.commits: 20, commit 2, size of frame 2: the sizes sum to 2^64 or more (byte 1201 of the file)\n";
     assert_eq!(out, said);
 }
 
-/// Good, damaged and random tables of a kind.
+/// A table of a kind: good, random bytes, or damaged up to three times.
 fn drawn(kind: &Kind, r: &mut Random) -> Vec<u8> {
     let mut bytes = make::table(kind, r);
-    match r.below(8) {
-        0 => {}
-        1 => {
+    match r.below(6) {
+        0 | 1 => {}
+        2 => {
             let size = r.below(3 * kind.record);
             bytes = r.bytes(size);
         }
-        _ => (0..1 + r.below(3)).filter(|_| true).for_each(|_| {
-            if bytes.len() >= 2 {
-                damage::table(kind, &mut bytes, r)
+        _ => {
+            for _ in 0..1 + r.below(3) {
+                if bytes.len() >= 2 {
+                    damage::table(kind, &mut bytes, r);
+                }
             }
-        }),
+        }
     }
     bytes
 }
@@ -201,7 +207,7 @@ fn drawn(kind: &Kind, r: &mut Random) -> Vec<u8> {
 fn a_place_is_found_wherever_there_is_one() {
     let (folder, mut r) = (Folder::new("damaged"), Random::new(11));
     for kind in &TABLES {
-        let tables: Vec<_> = (0..200).map(|_| drawn(kind, &mut r)).collect();
+        let tables: Vec<_> = (0..300).map(|_| drawn(kind, &mut r)).collect();
         let names: Vec<_> = (0..tables.len()).map(|i| format!("{i}.{}", kind.name)).collect();
         names.iter().zip(&tables).for_each(|(name, bytes)| folder.put(name, bytes));
         let (_, out, _) = folder.desk(std::iter::once("check").chain(names.iter().map(String::as_str)));
@@ -296,7 +302,7 @@ gift sign=c from=remote log=0b lsn=1 pages=1,66
     let svg = std::fs::read_to_string(folder.0.join("map.svg")).unwrap();
     assert!(svg.starts_with("<svg ") && svg.ends_with("</svg>\n"));
     assert_eq!(svg.matches("<title>").count(), 3 + 4 + 3, "three commits, four runs of the first row, three of the second");
-    assert!(svg.contains("<title>pages 66 to 66: commit 1 of the remote log</title>"), "{svg}");
+    assert!(svg.contains("<title>page 66: commit 1 of the remote log</title>"), "{svg}");
     for (open, close) in [("<g>", "</g>"), ("<text ", "</text>"), ("<title>", "</title>")] {
         assert_eq!(svg.matches(open).count(), svg.matches(close).count());
     }
@@ -371,21 +377,23 @@ fn odd_arguments() {
     assert!(folder.desk(["--help"]).0);
 }
 
-/// Random volumes and commits, shown and drawn: no panic, and what is drawn is whole.
+/// Any volumes and commits are shown, and drawn where they are tables: no panic.
 #[test]
 fn any_tables_are_shown() {
     let (folder, mut r) = (Folder::new("any"), Random::new(5));
-    for _ in 0..120 {
-        let (volumes, commits) = (drawn(&TABLES[0], &mut r), drawn(&TABLES[2], &mut r));
+    let mut maps = 0;
+    for i in 0..150 {
+        let (volumes, commits, svg) = (drawn(&TABLES[0], &mut r), drawn(&TABLES[2], &mut r), format!("{i}.svg"));
         folder.put("volumes", &volumes);
         folder.put("commits", &commits);
-        let _ = std::fs::remove_file(folder.0.join("map.svg"));
         let vid = r.below(5).to_string();
-        let (well, out, _) = folder.desk(["show", "volumes", "commits", "--volume", &vid, "--svg", "map.svg"]);
+        let (well, out, _) = folder.desk(["show", "volumes", "commits", "--volume", &vid, "--svg", &svg]);
         let formed = TABLES[0].formed(&volumes) && TABLES[2].formed(&commits);
         assert!(formed || !well, "{out}");
-        assert_eq!(folder.0.join("map.svg").exists(), well, "{out}");
+        assert_eq!(folder.0.join(svg).exists(), well, "{out}");
+        maps += usize::from(well);
     }
+    assert!(maps > 20, "{maps} were drawn");
 }
 
 #[cfg(unix)]

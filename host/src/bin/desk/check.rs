@@ -32,8 +32,8 @@ pub fn verdict(kind: Kind, bytes: &[u8]) -> Result<String, String> {
         return Err(format!("20, {}", place(kind, bytes)));
     }
     let (held, room) = (held(bytes), kind.capacity(bytes));
-    let full = if held == room { "; it is full, and a call that needs room in it is refused with 19" } else { "" };
-    Ok(format!("ok, {held} of {room} records of {}{full}", kind.shape().word))
+    let full = if held == room { ": it is full, and a call that needs room in it is refused with 19" } else { "" };
+    Ok(format!("ok, {held} of {room} {}{full}", kind.shape().several))
 }
 
 /// The records that a table in form says it holds.

@@ -15,17 +15,19 @@ pub enum Kind {
     Presence,
 }
 
-/// What a kind is: its word, the word for one record, the bytes of a record and of its key, and the archive's check.
+/// What a kind is: its word, the words for one record and for several, the bytes of a record and of its key, and the archive's check.
 pub struct Shape {
     pub word: &'static str,
     pub one: &'static str,
+    pub several: &'static str,
     pub record: usize,
     pub key: usize,
     pub formed: fn(&[u8]) -> Reply,
 }
 
-fn shape<R: Record>(word: &'static str, one: &'static str, formed: fn(&[u8]) -> Reply) -> Shape {
-    Shape { word, one, record: R::SIZE, key: R::KEY, formed }
+fn shape<R: Record>(words: [&'static str; 3], formed: fn(&[u8]) -> Reply) -> Shape {
+    let [word, one, several] = words;
+    Shape { word, one, several, record: R::SIZE, key: R::KEY, formed }
 }
 
 impl Kind {
@@ -33,12 +35,12 @@ impl Kind {
 
     pub fn shape(self) -> Shape {
         match self {
-            Kind::Volumes => shape::<Volume>("volumes", "volume", plain::volumes_formed),
-            Kind::Tags => shape::<Tag>("tags", "tag", plain::tags_formed),
-            Kind::Commits => shape::<Commit>("commits", "commit", plain::commits_formed),
-            Kind::Checkpoints => shape::<Checkpoint>("checkpoints", "checkpoint", plain::checkpoints_formed),
-            Kind::Index => shape::<IndexEntry>("index", "index entry", plain::index_formed),
-            Kind::Presence => shape::<PresentPage>("presence", "present page", plain::presence_formed),
+            Kind::Volumes => shape::<Volume>(["volumes", "volume", "volumes"], plain::volumes_formed),
+            Kind::Tags => shape::<Tag>(["tags", "tag", "tags"], plain::tags_formed),
+            Kind::Commits => shape::<Commit>(["commits", "commit", "commits"], plain::commits_formed),
+            Kind::Checkpoints => shape::<Checkpoint>(["checkpoints", "checkpoint", "checkpoints"], plain::checkpoints_formed),
+            Kind::Index => shape::<IndexEntry>(["index", "index entry", "index entries"], plain::index_formed),
+            Kind::Presence => shape::<PresentPage>(["presence", "present page", "present pages"], plain::presence_formed),
         }
     }
 

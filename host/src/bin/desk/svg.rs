@@ -62,7 +62,7 @@ fn draw_row(drawing: &mut Drawing, map: &Map, row: &Row) {
             drawing.y += CELL;
             return;
         }
-        Row::Bare(first, last) => drawing.text(10, &format!("{first} to {last}: in no commit")),
+        Row::Bare(first, last) => drawing.text(10, &format!("{}: in no commit", words::span(*first, *last))),
         Row::Rest(first) => drawing.text(10, &format!("{first} and on: not drawn")),
     }
     drawing.y += LINE;
@@ -76,10 +76,10 @@ fn draw_runs(drawing: &mut Drawing, map: &Map, first: u64, cells: &[Option<usize
         let x = LEFT + at * CELL;
         match run[0].and_then(|i| Some((i, map.items.get(i)?))) {
             Some((i, item)) => {
-                let told = format!("pages {start} to {end}: commit {} of the {} log", item.lsn.get(), map.whose(item));
+                let told = format!("{}: commit {} of the {} log", words::span(start, end), item.lsn.get(), map.whose(item));
                 drawing.squares(x, run.len(), colour(i), &sign(i).to_string(), &told);
             }
-            None => drawing.squares(x, run.len(), "#eeeeee", "", &format!("pages {start} to {end}: in no commit")),
+            None => drawing.squares(x, run.len(), "#eeeeee", "", &format!("{}: in no commit", words::span(start, end))),
         }
         at += run.len();
     }

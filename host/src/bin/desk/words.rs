@@ -45,6 +45,11 @@ pub fn pages(set: &PageSet) -> String {
     list(ranges.into_iter().map(|(first, last)| if first == last { first.to_string() } else { format!("{first}-{last}") }))
 }
 
+/// A page, or pages from one to another.
+pub fn span(first: u64, last: u64) -> String {
+    if first == last { format!("page {first}") } else { format!("pages {first} to {last}") }
+}
+
 /// The name of a tag: what is no visible ASCII character is `\xNN`.
 pub fn name(bytes: &[u8]) -> String {
     bytes.escape_ascii().to_string().replace(' ', "\\x20")
