@@ -329,6 +329,24 @@ fn page_map_of_far_pages() {
     assert!(!well && out.ends_with("4: no volume of that identifier (see: desk explain 4)\n"), "{out}");
 }
 
+/// A map has at most 4096 rows; every page is among the gifts.
+#[test]
+fn page_map_of_many_rows() {
+    let folder = Folder::new("rows");
+    let mut commits = vec![0, 130];
+    for at in (1..=130).rev() {
+        let of: Vec<u32> = (0..32).map(|i| 1 + 64 * (32 * (at as u32 - 1) + i)).collect();
+        commits.extend(Commit { count: PageCount(u32::MAX), ..commit(LOCAL, at, &of) }.to_bytes());
+    }
+    folder.put("commits", &commits);
+    folder.put("volumes", books(None).volumes.as_bytes());
+    let (well, out, _) = folder.desk(["show", "volumes", "commits", "--volume", "1", "--svg", "map.svg"]);
+    let rows: Vec<_> = out.lines().skip_while(|line| !line.starts_with(' ')).collect();
+    assert!(well && rows.len() == 4097 && rows[4096] == "    262145 and on: see the gifts above", "{} rows", rows.len());
+    assert!(rows[..4096].iter().all(|row| row[11..].trim_start_matches(|c| c != '.') == ".".repeat(63)));
+    assert_eq!(out.lines().filter(|line| line.starts_with("gift ")).count(), 130);
+}
+
 #[test]
 fn numbers_explained() {
     let folder = Folder::new("explain");

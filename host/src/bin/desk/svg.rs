@@ -1,4 +1,4 @@
-//! The page map as a drawing: a square for each page, coloured and signed by the commit that holds it.
+//! The page map as a drawing: a square for each page, coloured and signed by the commit that holds it; the commits stand below.
 use crate::map::{ACROSS, Map, Row, sign};
 use crate::words;
 use std::fmt::Write;
@@ -37,14 +37,15 @@ pub fn drawn(map: &Map) -> String {
     let mut drawing = Drawing { body: String::new(), y: 10 };
     drawing.text(10, &format!("volume {}: which commit holds which of its {} pages", words::hex(&map.volume.vid.0), map.snapshot.count.0));
     drawing.y += LINE;
+    for row in map.rows() {
+        draw_row(&mut drawing, map, &row);
+    }
+    drawing.y += LINE;
     for (i, item) in map.items.iter().enumerate() {
         let pages = words::counted(item.gift.len().0 as usize, "page", "pages");
         drawing.squares(10, 1, colour(i), &sign(i).to_string(), &words::pages(&item.gift));
         drawing.text(34, &format!("commit {} of the {} log {}: {pages}", item.lsn.get(), map.whose(item), words::hex(&item.log.0)));
         drawing.y += LINE;
-    }
-    for row in map.rows() {
-        draw_row(&mut drawing, map, &row);
     }
     let (width, height) = (LEFT + ACROSS as usize * CELL + 10, drawing.y + 10);
     format!(
