@@ -369,7 +369,7 @@ fn odd_arguments() {
     folder.put("a.commits", &[0, 0]);
     std::fs::create_dir_all(folder.0.join("index.d")).unwrap();
     let long = "0".repeat(33);
-    let complaints: [(&[&str], &str); 13] = [
+    let complaints: [(&[&str], &str); 16] = [
         (&[], "what is wanted?"),
         (&["chekc"], "there is no command chekc"),
         (&["check"], "which files"),
@@ -381,6 +381,9 @@ fn odd_arguments() {
         (&["show", "volumes", "--volume", "+1"], "1 to 32 hex digits"),
         (&["show", "volumes", "--volume", "1"], "a table of commits"),
         (&["show", "volumes", "--svg", "x.svg"], "by --volume"),
+        (&["show", "volumes", "commits", "--volume", "1", "--svg", "commits"], "ends in .svg"),
+        (&["show", "volumes", "commits=c.svg", "--volume", "1", "--svg", "c.svg"], "is not drawn over"),
+        (&["show", "volumes", "--vid", "1"], "there is no option --vid"),
         (&["show", "commits", "a.commits"], "two tables of commits"),
         (&["show", "volumes", "commits", "--volume", "1", "--svg", "no/such/folder.svg"], "cannot be written"),
     ];
@@ -393,6 +396,7 @@ fn odd_arguments() {
     assert!(!well && lines.len() == 6 && lines[0].starts_with("no.tags: it cannot be read") && lines[5].contains("ok"), "{out}");
     assert!(lines[1].contains("cannot be read") && lines[2].contains("which table is it?"), "{out}");
     assert!(folder.desk(["--help"]).0);
+    assert_eq!(std::fs::read(folder.0.join("commits")).unwrap(), full_books().commits.as_bytes(), "a table is never written");
 }
 
 /// Any volumes and commits are shown, and drawn where they are tables: no panic.

@@ -23,21 +23,40 @@ impl Wanted {
         while let Some(argument) = args.next() {
             match argument.to_str() {
                 Some("--volume") => wanted.volume = Some(volume_id(args.next())?),
-                Some("--svg") => wanted.svg = Some(args.next().ok_or("--svg needs the name of a file")?.into()),
+                Some("--svg") => wanted.svg = Some(drawing(args.next())?),
+                Some(option) if option.starts_with('-') => return Err(format!("there is no option {option}")),
                 _ => wanted.files.push(File::of_argument(argument)?),
             }
         }
-        let twice = |kind: &Kind| wanted.files.iter().filter(|file| file.kind == *kind).count() > 1;
+        wanted.checked()
+    }
+
+    /// What goes together: some files, at most one of a kind, and a drawing of a volume into none of them.
+    fn checked(self) -> Result<Wanted, String> {
+        if self.files.is_empty() {
+            return Err("which files are to be shown?".to_string());
+        }
+        let twice = |kind: &Kind| self.files.iter().filter(|file| file.kind == *kind).count() > 1;
         if let Some(kind) = Kind::ALL.iter().find(|kind| twice(kind)) {
             return Err(format!("there are two tables of {}: the tables of one tester are shown at a time", kind.shape().word));
         }
-        if wanted.files.is_empty() {
-            return Err("which files are to be shown?".to_string());
-        }
-        if wanted.svg.is_some() && wanted.volume.is_none() {
+        let Some(svg) = &self.svg else { return Ok(self) };
+        if self.volume.is_none() {
             return Err("--svg draws the pages of a volume: say which by --volume".to_string());
         }
-        Ok(wanted)
+        if self.files.iter().any(|file| file.path == *svg) {
+            return Err(format!("{} is a table, and is not drawn over", svg.display()));
+        }
+        Ok(self)
+    }
+}
+
+/// The file for a drawing, which by its name is no table.
+fn drawing(argument: Option<&OsString>) -> Result<PathBuf, String> {
+    let path = PathBuf::from(argument.ok_or("--svg needs the name of a file")?);
+    match path.extension() {
+        Some(end) if end.eq_ignore_ascii_case("svg") => Ok(path),
+        _ => Err(format!("{}: the name of a drawing ends in .svg", path.display())),
     }
 }
 
