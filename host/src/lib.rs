@@ -4,6 +4,22 @@
 //! each of its functions. A call answers a value or a [`Refusal`], document 01's number with its words; a refused call changes nothing.
 //! Values have one byte form each (docs/TABLES.md), and so have the six tables, whose memory the caller lends.
 //!
+//! ```
+//! use sigatuda::*;
+//! let mut tables = OwnedTables::new(Capacities { volumes: 4, tags: 4, commits: 32, checkpoints: 32, index: 512, presence: 512 });
+//! let mut books = tables.lend();
+//! // what is not asked, a spare stands in for; the caller draws it
+//! let spares = NewVolume { vid: VolumeId([1; 16]), local: LogId([10; 16]), remote: LogId([11; 16]) };
+//! let volume = books.open(Asked::default(), spares)?;
+//! let empty = books.snapshot(volume.vid)?;
+//! let pages = PageSet::range(PageIdx::FIRST, PageIdx::new(2)?)?;
+//! let saved = books.save(volume.vid, &empty, PageCount(2), SegmentId([81; 16]), &pages)?;
+//! assert_eq!(saved.head()?, Some((volume.local, Lsn::FIRST)));
+//! assert_eq!(books.search(&saved, PageIdx::FIRST)?.map(|commit| commit.lsn), Some(Lsn::FIRST));
+//! assert_eq!(books.save(volume.vid, &empty, PageCount(2), SegmentId([82; 16]), &pages), Err(Refusal::NotLatest));
+//! # Ok::<(), Refusal>(())
+//! ```
+//!
 //! [`plain`] has every function on plain numbers and bytes; the types of the other modules stand on it. The crate is `no_std`; the
 //! feature `owned`, on by default, adds tables that own their bytes and needs an allocator.
 #![no_std]

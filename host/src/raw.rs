@@ -70,6 +70,7 @@ unsafe extern "C" {
     pub(crate) fn sigatuda_volume_exists(volumes: *const u8, volumes_len: usize, vid: *const [u8; 16]) -> Reply;
     pub(crate) fn sigatuda_volume_list(volumes: *const u8, volumes_len: usize, list: *mut u8, list_len: usize, items: *mut u32) -> Reply;
     pub(crate) fn sigatuda_volume_delete(volumes: *mut u8, volumes_len: usize, vid: *const [u8; 16]) -> Reply;
+    pub(crate) fn sigatuda_open(volumes: *mut u8, volumes_len: usize, commits: *const u8, commits_len: usize, has_vid: u32, vid: *const [u8; 16], has_local: u32, local: *const [u8; 16], has_remote: u32, remote: *const [u8; 16], spare_vid: *const [u8; 16], spare_local: *const [u8; 16], spare_remote: *const [u8; 16], out: *mut u8, out_len: usize) -> Reply;
     pub(crate) fn sigatuda_drop(volumes: *mut u8, volumes_len: usize, vid: *const [u8; 16]) -> Reply;
     // over tables: tags
     pub(crate) fn sigatuda_tag_read(tags: *const u8, tags_len: usize, name: *const u8, name_len: usize, vid: *mut [u8; 16]) -> Reply;
@@ -96,6 +97,7 @@ unsafe extern "C" {
     pub(crate) fn sigatuda_snapshot_commits(commits: *const u8, commits_len: usize, snapshot: *const u8, snapshot_len: usize, list: *mut u8, list_len: usize, items: *mut u32) -> Reply;
     pub(crate) fn sigatuda_search(commits: *const u8, commits_len: usize, index: *const u8, index_len: usize, snapshot: *const u8, snapshot_len: usize, page: u32, out: *mut u8, out_len: usize) -> Reply;
     pub(crate) fn sigatuda_walk(commits: *const u8, commits_len: usize, snapshot: *const u8, snapshot_len: usize, list: *mut u8, list_len: usize, items: *mut u32) -> Reply;
+    pub(crate) fn sigatuda_missing_frames(commits: *const u8, commits_len: usize, presence: *const u8, presence_len: usize, snapshot: *const u8, snapshot_len: usize, list: *mut u8, list_len: usize, items: *mut u32) -> Reply;
     // over tables: saving and sending
     pub(crate) fn sigatuda_save(volumes: *const u8, volumes_len: usize, commits: *mut u8, commits_len: usize, checkpoints: *mut u8, checkpoints_len: usize, index: *mut u8, index_len: usize, presence: *mut u8, presence_len: usize, vid: *const [u8; 16], snapshot: *const u8, snapshot_len: usize, count: u32, sid: *const [u8; 16], pages: *const u8, pages_len: usize, out: *mut u8, out_len: usize) -> Reply;
     pub(crate) fn sigatuda_sync(volumes: *mut u8, volumes_len: usize, commits: *const u8, commits_len: usize, vid: *const [u8; 16]) -> Reply;

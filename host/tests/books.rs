@@ -193,8 +193,38 @@ fn walk() {
     assert_eq!(t.commits.walk(&snapshot, &mut list[1..]).err(), Some(Refusal::NoRoom));
 }
 
+#[test]
+fn missing_frames() {
+    let mut tables = books();
+    let mut t = tables.lend();
+    let frames = [Frame { size: 100, last: page(3) }, Frame { size: 50, last: page(9) }];
+    let segment = Segment { sid: SegmentId(id(7)), pages: pages(&[2, 3, 5, 9]), frames: List::from_slice(&frames).unwrap() };
+    t.write_commit(&Commit { segment: Some(segment), ..commit(REMOTE, 1, &[]) }).unwrap();
+    let snapshot = Snapshot::new(REMOTE, lsn(1), lsn(1), PageCount(9)).unwrap();
+    let mut list = [0; 3 * SegmentRange::SIZE];
+    assert_eq!(t.missing_frames(&snapshot, &mut list).unwrap().len(), 2);
+    t.presence.mark(segment.sid, page(2)).unwrap();
+    t.presence.mark(segment.sid, page(9)).unwrap();
+    let second = SegmentRange { sid: segment.sid, start: 100, end: 150, pages: pages(&[5, 9]) };
+    assert!(t.missing_frames(&snapshot, &mut list).unwrap().eq([second]), "a frame's first page says");
+}
+
 /// Identifiers that nothing has.
 const SPARE: NewVolume = NewVolume { vid: VolumeId(id(21)), local: LogId(id(22)), remote: LogId(id(23)) };
+
+#[test]
+fn open() {
+    let mut tables = books();
+    let mut t = tables.lend();
+    t.write_commit(&commit(REMOTE, 4, &[1])).unwrap();
+    let asked = Asked { vid: Some(VID), local: Some(LOCAL), remote: Some(REMOTE) };
+    assert_eq!(t.open(asked, SPARE), Ok(volume(synced(4, None), None)));
+    assert_eq!(t.open(Asked { local: None, remote: None, ..asked }, SPARE), Ok(volume(synced(4, None), None)));
+    assert_eq!(t.open(Asked { remote: Some(LOCAL), ..asked }, SPARE), Err(Refusal::OtherRemote));
+    assert_eq!(t.open(Asked::default(), NewVolume { local: LOCAL, ..SPARE }), Err(Refusal::InUse));
+    let new = Volume { vid: SPARE.vid, local: SPARE.local, remote: SPARE.remote, sync: None, pending: None };
+    assert_eq!(t.open(Asked::default(), SPARE), Ok(new));
+}
 
 #[test]
 fn success_and_recovery() {
@@ -211,4 +241,24 @@ fn success_and_recovery() {
     t.write_commit(&commit(REMOTE, 2, &[1])).unwrap();
     assert_eq!(t.recover(VID), Err(Refusal::Diverged), "another's commit is there");
     assert_eq!(t.volumes.read(VID), Ok(volume(synced(1, Some(3)), None)), "and the pending one is dropped");
+}
+
+/// Document 01's call list.
+#[test]
+fn the_example() {
+    let mut tables = books();
+    let mut t = tables.lend();
+    let asked = Asked { vid: Some(VID), local: Some(LOCAL), remote: Some(REMOTE) };
+    t.open(asked, SPARE).unwrap();
+    let empty = t.snapshot(VID).unwrap();
+    assert_eq!(empty.head(), Ok(None));
+    let first = t.save(VID, &empty, PageCount(2), SegmentId(id(0x51)), &pages(&[1, 2])).unwrap();
+    assert_eq!(first.head(), Ok(Some((LOCAL, lsn(1)))));
+    let second = t.save(VID, &first, PageCount(3), SegmentId(id(0x52)), &pages(&[2, 3])).unwrap();
+    assert_eq!(second.head(), Ok(Some((LOCAL, lsn(2)))));
+    assert_eq!(t.save(VID, &first, PageCount(3), SegmentId(id(0x53)), &pages(&[1])), Err(Refusal::NotLatest));
+    assert_eq!(t.save(VID, &second, PageCount(3), SegmentId(id(0x51)), &pages(&[1])), Err(Refusal::InUse));
+    let found = t.search(&second, page(2)).unwrap().unwrap();
+    assert_eq!((found.log, found.lsn), (LOCAL, lsn(2)));
+    assert_eq!((t.checkpoints.held(), t.presence.held()), (Some(1), Some(4)), "the first save is a checkpoint");
 }

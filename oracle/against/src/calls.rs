@@ -14,7 +14,7 @@ macro_rules! calls {
         pub enum Op { $($op),* }
 
         impl Op {
-            pub const ALL: &'static [Op] = &[Op::VolumeRead, Op::VolumeExists, Op::VolumeDelete, Op::Drop, Op::TagRead, Op::TagExists, Op::TagDelete, Op::TagReplace, Op::CommitRead, Op::LatestCommit, Op::LatestLsn, Op::PageCount, Op::CheckpointAt, Op::PagePresent, Op::PageMark, Op::PageRemove, Op::PagesRemove, Op::Snapshot, Op::LatestCheck, Op::Search, Op::VolumeList, Op::TagList, Op::StoredLsns, Op::SnapshotCommits, Op::Walk, Op::WriteCommit, Op::Save, Op::Sync, Op::Prepare, Op::Success, Op::Recover];
+            pub const ALL: &'static [Op] = &[Op::VolumeRead, Op::VolumeExists, Op::VolumeDelete, Op::Drop, Op::TagRead, Op::TagExists, Op::TagDelete, Op::TagReplace, Op::CommitRead, Op::LatestCommit, Op::LatestLsn, Op::PageCount, Op::CheckpointAt, Op::PagePresent, Op::PageMark, Op::PageRemove, Op::PagesRemove, Op::Snapshot, Op::LatestCheck, Op::Search, Op::VolumeList, Op::TagList, Op::StoredLsns, Op::SnapshotCommits, Op::Walk, Op::MissingFrames, Op::Open, Op::WriteCommit, Op::Save, Op::Sync, Op::Prepare, Op::Success, Op::Recover];
 
             pub fn name(self) -> &'static str {
                 match self { $(Op::$op => $name),* }
@@ -189,7 +189,7 @@ fn run_list(op: Op, a: &Args, tables: &mut Six, out: &mut [u8], items: &mut u32)
         Op::StoredLsns => plain::stored_lsns(commits, &a.log, a.lsn, a.end, out, items),
         Op::SnapshotCommits => plain::snapshot_commits(commits, &a.snapshot, out, items),
         Op::Walk => plain::walk(commits, &a.snapshot, out, items),
-        Op::MissingFrames => unreachable!("not exported yet"),
+        Op::MissingFrames => plain::missing_frames(commits, presence, &a.snapshot, out, items),
         _ => unreachable!(),
     }
 }
@@ -199,7 +199,7 @@ fn run_write(op: Op, a: &Args, tables: &mut Six, out: &mut [u8]) -> Reply {
     let ([has_vid, has_local, has_remote], [vid, local, remote]) = (a.flags, &a.asked);
     let [s_vid, s_local, s_remote] = &a.spares;
     match op {
-        Op::Open => unreachable!("not exported yet"),
+        Op::Open => plain::open(v, c, has_vid, vid, has_local, local, has_remote, remote, s_vid, s_local, s_remote, out),
         Op::WriteCommit => plain::write_commit(c, k, i, &a.commit),
         Op::Save => plain::save(v, c, k, i, p, &a.vid, &a.snapshot, a.count, &a.sid, &a.set, out),
         Op::Sync => plain::sync(v, c, &a.vid),

@@ -76,7 +76,7 @@ pub fn read<R: Record>(bytes: &[u8]) -> impl Iterator<Item = R> {
     bytes[2..].chunks_exact(R::SIZE).take(held).map(|record| R::read(record).expect("in form"))
 }
 
-pub fn lsn_of(lsn: lsn::LSN) -> Lsn {
+fn lsn_of(lsn: lsn::LSN) -> Lsn {
     Lsn::new(lsn.to_u64()).expect("no LSN 0")
 }
 
