@@ -20,14 +20,13 @@ struct Tester {
 }
 
 impl Tester {
-    /// A tester with a new volume that follows the desk's log.
+    /// A tester with a new volume that follows the desk's log; the host draws the spare identifiers.
     fn open(n: u8) -> Result<Tester, Refusal> {
         let room = Capacities { volumes: 4, tags: 4, commits: 32, checkpoints: 32, index: 512, presence: 512 };
-        let (vid, local) = (VolumeId(id(n)), LogId(id(0xa0 + n)));
-        let mut volumes = vec![0; Volumes::bytes_for(room.volumes)];
-        volumes[1] = 1; // one volume, in step with a log that is empty
-        Volume { vid, local, remote: DESK, sync: None, pending: None }.to_slice(&mut volumes[2..2 + Volume::SIZE])?;
-        Ok(Tester { vid, local, books: OwnedTables { volumes: OwnedTable::from_bytes(volumes), ..OwnedTables::new(room) } })
+        let spares = NewVolume { vid: VolumeId(id(n)), local: LogId(id(0xa0 + n)), remote: LogId(id(0xb0 + n)) };
+        let mut books = OwnedTables::new(room);
+        let volume = books.lend().open(Asked { remote: Some(DESK), ..Asked::default() }, spares)?;
+        Ok(Tester { vid: volume.vid, local: volume.local, books })
     }
 
     /// Saves readings as the next commit of its own log.

@@ -1,4 +1,4 @@
-//! The page map as a drawing: a square for each page, coloured and signed by the commit that holds it; the commits stand below.
+//! The page map as a drawing: rows of 64 pages, coloured and signed by the commit that holds them; the commits stand below.
 use crate::map::{ACROSS, Map, Row, sign};
 use crate::words;
 use std::fmt::Write;
