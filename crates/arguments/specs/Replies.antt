@@ -1,9 +1,11 @@
 -- What an exported call leaves: its reply, and what is lent for the answer. An answer is written where the number is 0 and there is one; else what was lent stays as found.
 use Prim.Native.Nat.{ℕ}
+use mathlib.Core.List.{List}
 use mathlib.Core.Option.{Option, none, some}
 use mathlib.Core.Bool.{Bool, true, false, cond}
 use lib.Dec.{eqb}
-use Rattle.core.specs.Answers.{Answer, refused, done}
+use lib.ListN.{length}
+use Rattle.core.specs.Answers.{Answer, refused, done, ask, _>>_}
 use Rattle.arguments.specs.declared.Reply.{Reply}
 
 -- document 01's number, and no answer
@@ -39,3 +41,9 @@ module _ {A B : Type 0} (f : A → B) (was : B) where
   valueOr (refused n) = (none-under n, was)
   valueOr (done none) = (none-under 0, was)
   valueOr (done (some a)) = (given, f a)
+
+-- the place lent for an answer of n bytes: 3 for another length, before what the rule asks
+unfoldable pub placed : {A : Type 0} → ℕ → List ℕ → Answer A → Answer A
+placed n was rule = do
+  ask (eqb (length was) n) 3
+  rule

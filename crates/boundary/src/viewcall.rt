@@ -7,8 +7,8 @@ ghost use Rattle.rules.specs.Snapshots.{snapshot as snapshotRule};
 ghost use Rattle.layout.specs.Tables.{volumesIn, volumesOk, commitsIn, commitsOk};
 ghost use Rattle.layout.specs.Values.{snapshotBytes};
 ghost use Rattle.layout.specs.Lent.{lent};
-ghost use Rattle.arguments.specs.Replies.{value, yesOrNo};
-ghost use Rattle.viewargs.specs.Views.{placed, latestIn};
+ghost use Rattle.arguments.specs.Replies.{value, yesOrNo, placed};
+ghost use Rattle.viewargs.specs.Views.{latestIn};
 
 // The snapshot of a volume: 20, 3 for a lent slice of another length, 4.
 #[no_mangle]

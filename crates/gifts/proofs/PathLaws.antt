@@ -3,7 +3,7 @@
 use Prim.Native.Nat.{ℕ, zero, suc, _+_, _-_, _*_, _<_, _≤_}
 use mathlib.Core.Path.{_≡_, refl, sym, ap, ap₂, _∙_, subst}
 use mathlib.Core.List.{List, [], _∷_, _++_, map, append-nil, append-assoc}
-use mathlib.Core.Bool.{Bool, true, false}
+use mathlib.Core.Bool.{true, false}
 use native.Mathlib.Omega.{arith}
 use mir.Val.{Val}
 use denote.Laws.{Is}
@@ -11,16 +11,14 @@ use denote.Struct.Declared.{row}
 use native.Mathlib.Numerals.{add-one}
 use borrow.Author.Tests.{le-leb, lt-leb, leb-true, leb-false}
 use lib.Dec.{leb}
-use lib.ListN.{length, take, drop, getD, set, replicate, length-append, length-replicate, length-map, drop-of-length-le}
+use lib.ListN.{length, take, drop, getD, replicate, length-append, length-map, drop-of-length-le}
 use lib.Seq.{drop-cons, take-suc, length-take-le}
 use Rattle.octets.specs.Tab.{tab}
-use Rattle.rules.specs.Lists.{those}
 use Rattle.rules.specs.Records.{Commit, Range}
 use Rattle.rules.specs.Pages.{numbers}
-use Rattle.rules.specs.Walk.{inRange, pathCommits}
+use Rattle.rules.specs.Walk.{pathCommits}
 use Rattle.rules.proofs.TableLaws.{cases, map-append}
-use Rattle.table.specs.Table.{countOf, capOf, recs}
-use Rattle.table.specs.Run.{RunOf}
+use Rattle.table.specs.Table.{countOf, capOf}
 use Rattle.table.specs.declared.Run.{Run}
 use Rattle.table.proofs.Checks.{well-count}
 use Rattle.layout.specs.Tables.{commitsIn, commitsOk}
@@ -29,11 +27,10 @@ use Rattle.rows.proofs.Rows.{formed-well}
 use Rattle.rows.proofs.Finds.{stretch-end, stretch-next}
 use Rattle.rows.proofs.Tables.{commits}
 use Rattle.commits.specs.Places.{commitAt, RunOfRange}
-use Rattle.commits.specs.declared.Place.{Place}
-use Rattle.commits.specs.declared.Place.the-variants.{At, Missing}
+use Rattle.commits.specs.declared.Place.the-variants.{At}
 use Rattle.gifts.specs.declared.paths.Path.{Path}
 use Rattle.gifts.proofs.paths.Path.{the-type}
-use Rattle.gifts.specs.Paths.{runOf, noRun, runsOf, placesIn, placeAt, Below, Inside, commitsAt, PathOf}
+use Rattle.gifts.specs.Paths.{runOf, noRun, runsOf, placesIn, placeAt, Below, commitsAt, PathOf}
 
 -- a path has eight places for runs
 pub runs-8 : (p : Path) (vs : List Val) → Is (row the-type) p vs → length (p .runs) ≡ 8

@@ -22,7 +22,6 @@ use Rattle.rules.proofs.TableLaws.{and-fst, and-snd, clash}
 use Rattle.rules.proofs.PageLaws.{form-rising, empty-form, holds-truncated, holds-minus}
 use Rattle.rules.proofs.PageCounts.{truncated-normal, minus-normal}
 use Rattle.table.specs.Table.{countOf}
-use Rattle.layout.specs.Codecs.{Codec, optional}
 use Rattle.layout.specs.Values.{windowBytes, setBytes, frameBytes, framesBytes, segmentBytes}
 use Rattle.layout.specs.Records.{commitBytes}
 use Rattle.layout.specs.Tables.{commitsOk}

@@ -19,11 +19,9 @@ use Rattle.setbytes.specs.Laid.{setLaid}
 use Rattle.setbytes.proofs.LaidLaws.{says-laid, laid-normal}
 use Rattle.rows.specs.Lookups.{nth}
 use Rattle.commits.specs.Places.{commitAt}
-use Rattle.commits.specs.declared.Place.{Place}
 use Rattle.commits.specs.declared.Place.the-variants.{At, Missing}
 use Rattle.gifts.specs.Paths.{placeAt, Below, commitsAt, more, before}
 use Rattle.gifts.specs.Steps.{stepOf, stepFrom}
-use Rattle.gifts.specs.declared.Step.{Step}
 use Rattle.gifts.proofs.SetLaws.{notTaken-normal, minus-none, none-shown}
 
 -- ---- the place of a number

@@ -13,7 +13,6 @@ use setbytes::set_read;
 ghost use mathlib.Core.Path.{_≡_};
 ghost use mathlib.Core.Bool.{true};
 ghost use Prim.Native.Nat.{_<_};
-ghost use lib.ListN.{drop};
 ghost use Rattle.table.specs.Table.{countOf};
 ghost use Rattle.pageset.specs.Sets.{shown, normal};
 ghost use Rattle.rules.specs.Pages.{minus, truncated};

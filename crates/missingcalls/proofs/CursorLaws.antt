@@ -1,16 +1,16 @@
 -- A listing, step by step. What is left at a cursor is what is left of the record that is listed, then the missing frames of the items from the next number on; an item's own are
 -- those of its segment by its gift. A step finds the first of what is left. Assumes nothing.
-use Prim.Native.Nat.{ℕ, zero, suc, _+_, _-_, _*_, _<_, _≤_}
+use Prim.Native.Nat.{ℕ, suc, _+_, _-_, _*_, _<_, _≤_}
 use mathlib.Core.Path.{_≡_, refl, sym, ap, _∙_, subst}
 use mathlib.Core.List.{List, [], _∷_, _++_}
 use mathlib.Core.Option.{Option, none, some}
-use mathlib.Core.Bool.{Bool, true, false, _&&_}
+use mathlib.Core.Bool.{Bool, true, false}
 use native.Mathlib.Omega.{arith}
 use borrow.Author.Tests.{leb-true, leb-false, le-leb, lt-leb}
 use lib.Dec.{leb}
 use lib.ListN.{length, length-append}
 use Rattle.pageset.specs.Sets.{shown, normal}
-use Rattle.rules.specs.Lists.{those, given, isSome}
+use Rattle.rules.specs.Lists.{those, given}
 use Rattle.rules.specs.Records as R
 use Rattle.rules.specs.Pages.{isEmpty}
 use Rattle.rules.specs.Forms.{startPage, segmentForm, listsForm, framesForm, commitForm}
@@ -23,6 +23,7 @@ use Rattle.layout.specs.Tables.{commitsOk}
 use Rattle.rows.proofs.Checks.{row-form}
 use Rattle.rows.proofs.Tables.{commits}
 use Rattle.commit.specs.Says.{rangeSays}
+use Rattle.commit.proofs.RecordLaws.{one-range}
 use Rattle.commits.specs.Places.{commitAt}
 use Rattle.commits.specs.declared.Place.{Place}
 use Rattle.commits.specs.declared.Place.the-variants.{At, Missing}
@@ -45,13 +46,33 @@ module _ (ps : Table R.Present) (g : R.Pages) (fs : List Part) (j : ℕ) (s : Fr
   pub frame-lacks : s .found ≡ false → framesLeft ps g fs j ≡ []
   frame-lacks e = subst (λ (b : Bool). FrameBy b (framesLeft ps g fs j) (s .range) (framesLeft ps g fs (s .frame))) e (h .next)
 
+no-more : (x : Part) (l : List Part) → x ∷ l ≡ [] → ⊥
+no-more x l e = omega (arith, ap length e)
+
 module _ (t : List ℕ) (ps : Table R.Present) (count : ℕ) (places : List ℕ) where
   module _ (all : List Part) (s : Step) (h : NextMissing t ps count places all s) where
     pub step-found : s .found ≡ true → (all ≡ rangeSays (s .range) ∷ missingLeft t ps count places (s .rest)) × (Fit (s .range) × Sound t (s .rest))
     step-found e = subst (λ (b : Bool). StepBy t ps count places b all s) e (h .next)
 
     pub step-lacks : s .found ≡ false → all ≡ []
-    step-lacks e = subst (λ (b : Bool). StepBy t ps count places b all s) e (h .next)
+    step-lacks e = subst (λ (b : Bool). StepBy t ps count places b all s) e (h .next) .0
+
+  -- so the step's frame is one, and so is what it leaves
+  module _ (all : List Part) (a b : Step) where
+    by-found : (x y : Bool) → StepBy t ps count places x all a → StepBy t ps count places y all b
+        → (x ≡ y) × ((a .range ≡ b .range) × (missingLeft t ps count places (a .rest) ≡ missingLeft t ps count places (b .rest)))
+    by-found true true h k =
+        let e : rangeSays (a .range) ∷ missingLeft t ps count places (a .rest) ≡ rangeSays (b .range) ∷ missingLeft t ps count places (b .rest) = sym (h .0) ∙ k .0 in
+        let f : rangeSays (b .range) ≡ rangeSays (a .range) = cc in
+        let r : missingLeft t ps count places (a .rest) ≡ missingLeft t ps count places (b .rest) = cc in
+        (refl, (one-range (rangeSays (a .range)) (a .range) (b .range) (record { says = refl; normal = h .1 .0 .normal }) (record { says = f; normal = k .1 .0 .normal }), r))
+    by-found true false h k = absurd (no-more (rangeSays (a .range)) (missingLeft t ps count places (a .rest)) (sym (h .0) ∙ k .0))
+    by-found false true h k = absurd (no-more (rangeSays (b .range)) (missingLeft t ps count places (b .rest)) (sym (k .0) ∙ h .0))
+    by-found false false h k = (refl, (h .1 .0 ∙ sym (k .1 .0), ap (missingLeft t ps count places) (h .1 .1 ∙ sym (k .1 .1))))
+
+    pub one-step : NextMissing t ps count places all a → NextMissing t ps count places all b
+        → (a .found ≡ b .found) × ((a .range ≡ b .range) × (missingLeft t ps count places (a .rest) ≡ missingLeft t ps count places (b .rest)))
+    one-step h k = by-found (a .found) (b .found) (h .next) (k .next)
 
   pub same-left : (a b : List Part) (s : Step) → a ≡ b → NextMissing t ps count places a s → NextMissing t ps count places b s
   same-left a b s e h = subst (λ (x : List Part). NextMissing t ps count places x s) e h

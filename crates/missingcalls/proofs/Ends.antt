@@ -1,13 +1,13 @@
 -- Missing frames at each way out of the code: 20, the snapshot's own number, 19 where the frames need more places than there are, else the frames.
-use Prim.Native.Nat.{ℕ, _*_, _/_, _≤_}
-use mathlib.Core.Path.{_≡_, refl, sym, ap, ap₂, _∙_}
+use Prim.Native.Nat.{ℕ, _/_}
+use mathlib.Core.Path.{_≡_, sym, ap, ap₂, _∙_}
 use mathlib.Core.List.{List}
 use mathlib.Core.Bool.{Bool, true, false, _&&_}
 use lib.Dec.{leb}
 use lib.ListN.{length}
 use Rattle.octets.specs.Bytes.{put}
 use Rattle.octets.specs.Flat.{flat}
-use Rattle.core.specs.Answers.{Answer, refused, done, code, ask, _>>=_, _>>_}
+use Rattle.core.specs.Answers.{Answer, done, code, ask, _>>=_, _>>_}
 use Rattle.rules.specs.Records.{Snapshot}
 use Rattle.rules.specs.Arguments.{snapshotLsns, snapshotOrder, snapshotForm}
 use Rattle.rules.specs.Frames.{Part}

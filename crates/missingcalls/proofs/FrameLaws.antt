@@ -1,17 +1,16 @@
 -- The frames of a row and which of them are missing. A row's segment is in form, so the frame list by value says the rules' frames, one at each place. A frame meets a gift where
 -- the cut of its set by the gift has a window, and its first page is the lowest of its set. Assumes nothing.
 use Prim.Native.Nat.{ℕ, zero, suc, _+_, _-_, _*_, _^_, _<_, _≤_}
-use mathlib.Core.Path.{_≡_, refl, sym, ap, ap₂, _∙_, subst}
-use mathlib.Core.List.{List, [], _∷_, _++_, map}
+use mathlib.Core.Path.{_≡_, refl, sym, ap, _∙_, subst}
+use mathlib.Core.List.{List, [], _∷_, map}
 use mathlib.Core.Option.{Option, none, some}
 use mathlib.Core.Bool.{Bool, true, false, not, _&&_}
 use native.Mathlib.Omega.{arith}
 use native.Mathlib.Numerals.{add-one}
-use lib.Dec.{leb, eqb}
+use lib.Dec.{leb}
 use lib.ListN.{length, take, drop, getD, replicate, length-map, length-take, drop-of-length-le}
 use lib.Seq.{drop-at, getD-take}
-use borrow.Author.Tests.{leb-true}
-use Rattle.core.specs.Answers.{Answer, done}
+use Rattle.core.specs.Answers.{done}
 use Rattle.core.specs.Says.{maybePageSays}
 use Rattle.core.specs.declared.page_count.MaybePage.{MaybePage}
 use Rattle.core.specs.declared.page_count.MaybePage.the-variants as MaybePage
@@ -30,18 +29,16 @@ use Rattle.rules.specs.Walk.{absent, isMissing}
 use Rattle.rules.proofs.TableLaws.{and-fst, and-snd}
 use Rattle.rules.proofs.PageLaws.{form-rising, holds-common}
 use Rattle.rules.proofs.PageCounts.{first-page, common-normal}
-use Rattle.commit.specs.declared.Frame.{Frame}
 use Rattle.commit.specs.declared.SegmentIdx.{SegmentIdx}
 use Rattle.commit.specs.declared.SegmentRange.{SegmentRange}
 use Rattle.commit.specs.Builders.{zeroFrame}
-use Rattle.commit.specs.Says.{segmentSays, rangeSays, IsRange}
+use Rattle.commit.specs.Says.{segmentSays, rangeSays}
 use Rattle.commit.proofs.SetLaws.{form-of, one-list}
 use Rattle.frames.specs.declared.FrameList.{FrameList}
-use Rattle.frames.specs.Parts.{AreRanges, Filled, Lists}
+use Rattle.frames.specs.Parts.{AreRanges, Lists}
 use Rattle.frames.specs.Rules.{noFrames, spelled, framesOk, listRule}
 use Rattle.frames.proofs.PlaceLaws.{form-rises, formed-ok}
 use Rattle.table.specs.Table.{countOf}
-use Rattle.layout.specs.Codecs.{Codec}
 use Rattle.layout.specs.Records.{commitBytes}
 use Rattle.layout.specs.Tables.{commitsOk}
 use Rattle.octets.specs.Bytes.{part}

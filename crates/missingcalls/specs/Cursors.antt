@@ -13,7 +13,7 @@ use Rattle.rules.specs.Frames.{Part, partsOf}
 use Rattle.rules.specs.Walk.{isMissing, missingOf}
 use Rattle.table.specs.Table.{countOf}
 use Rattle.commit.specs.declared.SegmentRange.{SegmentRange}
-use Rattle.commit.specs.Says.{rangeSays}
+use Rattle.commit.specs.Says.{rangeSays, zeroRange}
 use Rattle.commits.specs.Places.{commitAt}
 use Rattle.commits.specs.declared.Place.{Place}
 use Rattle.commits.specs.declared.Place.the-variants.{At, Missing}
@@ -67,10 +67,10 @@ leftAt t ps (At i) g j = framesLeft ps g (framesAt t i) j
 unfoldable pub missingLeft : List ℕ → Table Present → ℕ → List ℕ → Cursor → List Part
 missingLeft t ps count places c = leftAt t ps (c .at) (shown (c .gift)) (c .frame) ++ missingOf ps (itemsFrom t count places (c .next))
 
--- a step finds the first of what is left and a cursor at which the rest is left; or none is left
+-- a step finds the first of what is left and a cursor at which the rest is left; or none is left, and the answer is the empty one
 abbrev pub StepBy : List ℕ → Table Present → ℕ → List ℕ → Bool → List Part → Step → Type 0
 StepBy t ps count places true all s = (all ≡ rangeSays (s .range) ∷ missingLeft t ps count places (s .rest)) × (Fit (s .range) × Sound t (s .rest))
-StepBy t ps count places false all s = all ≡ []
+StepBy t ps count places false all s = (all ≡ []) × ((s .range ≡ zeroRange) × (s .rest ≡ startCursor))
 
 pub record NextMissing (t : List ℕ) (ps : Table Present) (count : ℕ) (places : List ℕ) (all : List Part) (s : Step) : Type 0 where
   pub next : StepBy t ps count places (s .found) all s

@@ -115,9 +115,13 @@ module _ (vs cs ks es ps : List ℕ) (vid : Id) (snapshot : List ℕ) (count : �
       unfolding snapshotForm
       within = le-leb (length (snapshotIn snapshot .path)) 8 (in-few snapshot)
 
+      -- with good arguments the rule decides
+      pub in-rule : saveOn vs cs ks es ps vid snapshot count sid pages out ≡ save (volumesIn vs) (logsIn cs ks es) (presenceIn ps) vid (snapshotIn snapshot) count sid (setBytes .read pages)
+      in-rule = in-is ∙ ap (λ (a : Answer (Unit {0})). a >> rule) (asked .done-with)
+
       by-plan : answer ≡ (planned (volumesIn vs) (commitsIn cs) (presenceIn ps) vid (snapshotIn snapshot) sid >>= (λ x. stored (logsIn cs ks es) (presenceIn ps) (x .0) (x .1) count sid (setBytes .read pages)))
       by-plan =
-          in-is ∙ ap (λ (a : Answer (Unit {0})). a >> rule) (asked .done-with)
+          in-rule
           ∙ save-parts (volumesIn vs) (logsIn cs ks es) (presenceIn ps) vid (snapshotIn snapshot) count sid (setBytes .read pages)
           (and-both (and-both (formed-rules Layouts.volumes vs (tables .volumes)) logs-formed) (formed-rules Layouts.presence ps (tables .presence)))
           (asked .lsns) (asked .order) (and-both within (set-normal pages (asked .set)))

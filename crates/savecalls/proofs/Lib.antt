@@ -1,5 +1,7 @@
--- The laws of save. `Forms`: 20 and the arguments. `Plans`: what a save goes by. `Stores`: what it stores. `Ends`: the call as the three, one after another.
+-- The laws of save. `Forms`: 20 and the arguments. `Plans`: what a save goes by. `Stores`: what it stores. `Ends`: the call as the three, one after another. `Found`: save, then
+-- snapshot, then search.
 pub mod Forms
 pub mod Plans
 pub mod Stores
 pub mod Ends
+pub mod Found

@@ -23,8 +23,8 @@ use Rattle.volumecalls.proofs.Ends.{read-is}
 use Rattle.tagcalls.specs.Says.{taggedAnswer}
 use Rattle.commitcalls.specs.Says.{Answered, outAfter}
 use Rattle.arguments.specs.declared.Reply.{Reply}
-use Rattle.arguments.specs.Replies.{none-under, given, value, valueOr, yesOrNo}
-use Rattle.tablereplies.specs.Records.{placed, volumeLeft, volumePut, taggedPut}
+use Rattle.arguments.specs.Replies.{none-under, given, value, valueOr, yesOrNo, placed}
+use Rattle.tablereplies.specs.Records.{volumeLeft, volumePut, taggedPut}
 
 -- ---- a tag's volume
 

@@ -4,7 +4,7 @@ use mathlib.Core.List.{List}
 use mathlib.Core.Bool.{Bool, cond}
 use lib.Dec.{eqb}
 use lib.ListN.{length}
-use Rattle.core.specs.Answers.{Answer, ask, _>>_}
+use Rattle.core.specs.Answers.{Answer}
 use Rattle.rules.specs.Records.{Id, Volume}
 use Rattle.volume.specs.Volumes.{volumeSays}
 use Rattle.volumecalls.specs.declared.VolumeAnswer.{VolumeAnswer}
@@ -12,13 +12,7 @@ use Rattle.tagcalls.specs.declared.TaggedAnswer.{TaggedAnswer}
 use Rattle.layout.specs.Records.{volumeBytes}
 use Rattle.layout.specs.Lent.{lent}
 use Rattle.arguments.specs.declared.Reply.{Reply}
-use Rattle.arguments.specs.Replies.{none-under, given, value}
-
--- the place lent for an answer of n bytes: 3 for another length, before what the rule asks
-unfoldable pub placed : {A : Type 0} → ℕ → List ℕ → Answer A → Answer A
-placed n was rule = do
-  ask (eqb (length was) n) 3
-  rule
+use Rattle.arguments.specs.Replies.{none-under, given, value, placed}
 
 -- a volume's bytes in what is lent for them
 abbrev pub volumeLeft : List ℕ → Bool → Answer Volume → Reply × List ℕ

@@ -27,10 +27,10 @@ use Rattle.viewcalls.specs.Checks.{checked}
 use Rattle.viewcalls.proofs.Ends.{formed}
 use Rattle.viewcalls.proofs.CheckLaws.{checked-rule}
 use Rattle.arguments.specs.declared.Reply.{Reply}
-use Rattle.arguments.specs.Replies.{none-under, given, value}
+use Rattle.arguments.specs.Replies.{none-under, given, value, placed}
 use Rattle.arguments.specs.Snapshots.{snapshotIn, snapshotFormed, snapshotPut}
 use Rattle.arguments.proofs.SnapshotLaws.{snapshot-size, laid-formed, in-few, put-refused, put-whole, answer-formed, laid-code}
-use Rattle.viewargs.specs.Views.{placed, latestIn, unformed}
+use Rattle.viewargs.specs.Views.{latestIn, unformed}
 
 -- ---- a volume's snapshot has at most two ranges
 

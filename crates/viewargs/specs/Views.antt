@@ -3,19 +3,12 @@ use Prim.Native.Nat.{ℕ}
 use mathlib.Core.List.{List}
 use mathlib.Core.Bool.{Bool, cond}
 use lib.Dec.{eqb}
-use lib.ListN.{length}
 use Rattle.core.specs.Answers.{Answer, refused, done, ask, _>>=_, _>>_}
 use Rattle.rules.specs.Records.{Id, Commit, Volume}
 use Rattle.rules.specs.Tables.{Table}
 use Rattle.rules.specs.Arguments.{snapshotLsns, snapshotOrder}
 use Rattle.rules.specs.Snapshots.{latestCheck}
 use Rattle.arguments.specs.Snapshots.{snapshotIn, snapshotFormed}
-
--- the place lent for an answer of n bytes: 3 for another length, before the rule
-unfoldable pub placed : {A : Type 0} → ℕ → List ℕ → Answer A → Answer A
-placed n out rule = do
-  ask (eqb (length out) n) 3
-  rule
 
 -- latest check of a snapshot in bytes: 1 and 2 look at the ranges that they spell; 3 asks their size and their form, before 4
 unfoldable pub latestIn : Table Volume → Table Commit → Id → List ℕ → Answer Bool

@@ -13,8 +13,8 @@ ghost use Rattle.rules.specs.Snapshots.{snapshot as snapshotRule};
 ghost use Rattle.layout.specs.Tables.{volumesIn, volumesOk, commitsIn, commitsOk};
 ghost use Rattle.layout.specs.Values.{snapshotBytes};
 ghost use Rattle.layout.specs.Lent.{lent};
-ghost use Rattle.arguments.specs.Replies.{value};
-ghost use Rattle.viewargs.specs.Views.{placed, latestIn, unformed as unformedAnswer};
+ghost use Rattle.arguments.specs.Replies.{value, placed};
+ghost use Rattle.viewargs.specs.Views.{latestIn, unformed as unformedAnswer};
 
 // The snapshot of the volume of an identifier, to `out`: 20, 3 for a place of another length, 4.
 pub fn snapshot(volumes: &[u8], commits: &[u8], vid: VolumeId, out: &mut [u8]) -> Reply

@@ -1,6 +1,6 @@
 -- The walk at each way out of the code: 20, the snapshot's own number, 19 where the items need more places than there are, else the items.
-use Prim.Native.Nat.{ℕ, _*_, _/_, _≤_}
-use mathlib.Core.Path.{_≡_, refl, sym, ap, ap₂, _∙_}
+use Prim.Native.Nat.{ℕ, _/_, _≤_}
+use mathlib.Core.Path.{_≡_, sym, ap, ap₂, _∙_}
 use mathlib.Core.List.{List}
 use mathlib.Core.Bool.{Bool, true, false}
 use native.Mathlib.Omega.{arith}
@@ -8,10 +8,9 @@ use lib.Dec.{leb}
 use lib.ListN.{length}
 use Rattle.octets.specs.Bytes.{put}
 use Rattle.octets.specs.Flat.{flat}
-use Rattle.core.specs.Answers.{Answer, refused, done, code, ask, _>>=_, _>>_}
+use Rattle.core.specs.Answers.{Answer, done, code, ask, _>>=_, _>>_}
 use Rattle.rules.specs.Records.{Snapshot}
 use Rattle.rules.specs.Arguments.{snapshotLsns, snapshotOrder, snapshotForm}
-use Rattle.rules.specs.Tables.{commitsFormed}
 use Rattle.rules.specs.Walk.{Item, walkOf, walk}
 use Rattle.layout.specs.Tables.{commitsIn, commitsOk}
 use Rattle.layout.specs.Lent.{lent}

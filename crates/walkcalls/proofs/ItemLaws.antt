@@ -1,13 +1,12 @@
 -- An item's bytes. A row of the table is the bytes of its commit, so its log and its segment stand in it as an item has them; the four parts of an item stored one after another
 -- are its bytes.
-use Prim.Native.Nat.{ℕ, suc, _+_, _*_, _^_, _<_, _≤_}
+use Prim.Native.Nat.{ℕ, suc, _+_, _*_, _<_, _≤_}
 use mathlib.Core.Path.{_≡_, refl, sym, ap, _∙_}
 use mathlib.Core.List.{List, [], _∷_, _++_, append-assoc}
 use mathlib.Core.Option.{Option, none, some}
-use mathlib.Core.Bool.{Bool, true, _&&_}
+use mathlib.Core.Bool.{true}
 use native.Mathlib.Omega.{arith}
 use borrow.Author.Tests.{eqb-true}
-use lib.Dec.{eqb}
 use lib.ListN.{length, length-append, length-replicate}
 use Rattle.octets.specs.Bytes.{bytesOf, part, put}
 use Rattle.octets.proofs.Numbers as N
@@ -15,12 +14,12 @@ use Rattle.octets.proofs.Places as P
 use Rattle.pageset.specs.declared.PageSet.{PageSet}
 use Rattle.pageset.specs.Sets.{shown, normalForm, normal}
 use Rattle.rules.specs.Lists.{given, isSome}
-use Rattle.rules.specs.Records.{Id, Hash, Pages, Segment, Commit}
-use Rattle.rules.specs.Forms.{bytesForm, idForm, lsnForm, hashForm, segmentForm, commitForm}
+use Rattle.rules.specs.Records.{Hash, Pages, Segment, Commit}
+use Rattle.rules.specs.Forms.{bytesForm, idForm, hashForm, segmentForm, commitForm}
 use Rattle.rules.specs.Walk.{Item}
 use Rattle.rules.proofs.TableLaws.{and-fst, and-snd, clash}
 use Rattle.table.specs.Table.{countOf}
-use Rattle.layout.specs.Codecs.{Codec, number, optional, listed}
+use Rattle.layout.specs.Codecs.{number, optional, listed}
 use Rattle.layout.specs.Values.{windowBytes, setBytes, frameBytes, framesBytes, segmentBytes}
 use Rattle.layout.specs.Records.{logLsnBytes, hashBytes, commitBytes}
 use Rattle.layout.specs.Tables.{commitsOk}

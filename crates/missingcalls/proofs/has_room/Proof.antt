@@ -7,7 +7,6 @@ use Rattle.layout.specs.Tables.{presenceIn}
 use Rattle.gifts.specs.Paths.{placesIn}
 use Rattle.gifts.specs.Steps.{itemsFrom}
 use mathlib.Core.List.{List}
-use Prim.Native.Nat.{_-_}
 use lib.ListN.{length}
 use borrow.Author.Tests.{not-true, not-false, le-leb}
 use Rattle.rules.specs.Frames.{Part}

@@ -40,7 +40,8 @@ start-requires : tie.Need-start-requires Inv-loop μ-loop
 start-requires c κs = search needs
 
 returns : tie.Need-returns Inv-loop μ-loop
-returns c = record { next = (c .before .before .before .before .before .before .loop .inv) ∙ ap (missingOf (presenceIn ((c .before .before .before .before .before .before .before .before .before) .args .presence .now))) (step-none ((c .before .before .before .before .before .before .before .before .before) .args .commits .now) (placesIn ((c .before .before .before .before .before .before .before .before .before) .args .path .runs)) ((c .before .before .before .before .before .before .before .before .before) .pre .0) ((c .before .before .before .before .before .before .before .before .before) .pre .2) ((c .before .before .before .before .before .before .before .before .before) .args .count .0) (c .before .before .before .before .before .before .loop .next) (c .before .before .before .before .before .next-gift .result) (c .before .before .before .before .before .next-gift .ensures) (c .before .before .enum-told .given .1)) }
+returns c =
+    record { next = ((c .before .before .before .before .before .before .loop .inv) ∙ ap (missingOf (presenceIn ((c .before .before .before .before .before .before .before .before .before) .args .presence .now))) (step-none ((c .before .before .before .before .before .before .before .before .before) .args .commits .now) (placesIn ((c .before .before .before .before .before .before .before .before .before) .args .path .runs)) ((c .before .before .before .before .before .before .before .before .before) .pre .0) ((c .before .before .before .before .before .before .before .before .before) .pre .2) ((c .before .before .before .before .before .before .before .before .before) .args .count .0) (c .before .before .before .before .before .before .loop .next) (c .before .before .before .before .before .next-gift .result) (c .before .before .before .before .before .next-gift .ensures) (c .before .before .enum-told .given .1)), (c .before .zero .ensures, c .start .ensures)) }
 
 next-frame-requires : tie.Need-next-frame-requires Inv-loop μ-loop
 next-frame-requires c κs =

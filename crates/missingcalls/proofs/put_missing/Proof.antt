@@ -6,7 +6,6 @@ use Rattle.rules.specs.Walk.{missingOf}
 use Rattle.layout.specs.Tables.{presenceIn}
 use Rattle.gifts.specs.Paths.{placesIn}
 use Rattle.gifts.specs.Steps.{itemsFrom}
-use Prim.Native.Nat.{_-_}
 use lib.ListN.{length}
 use borrow.Author.Tests.{not-true, not-false}
 use Rattle.commit.specs.Says.{rangeSays}

@@ -32,7 +32,9 @@ same-length-4 : tie.Need-same-length-4
 same-length-4 c = search needs
 
 returns : tie.Need-returns
-returns c = left-alone ((c .before .before .before .before .before .before .before .before .before .before .before .before .before .before) .args .commits .now) ((c .before .before .before .before .before .before .before .before .before .before .before .before .before .before) .args .checkpoints .now) ((c .before .before .before .before .before .before .before .before .before .before .before .before .before .before) .args .index .now) ((c .before .before .before .before .before .before .before .before .before .before .before .before .before .before) .args .presence .now) ((c .before .before .before .before .before .before .before .before .before .before .before .before .before .before) .args .out .now) _ 20 (not-formed ((c .before .before .before .before .before .before .before .before .before .before .before .before .before .before) .args .volumes .now) ((c .before .before .before .before .before .before .before .before .before .before .before .before .before .before) .args .commits .now) ((c .before .before .before .before .before .before .before .before .before .before .before .before .before .before) .args .checkpoints .now) ((c .before .before .before .before .before .before .before .before .before .before .before .before .before .before) .args .index .now) ((c .before .before .before .before .before .before .before .before .before .before .before .before .before .before) .args .presence .now) ((c .before .before .before .before .before .before .before .before .before .before .before .before .before .before) .args .vid) ((c .before .before .before .before .before .before .before .before .before .before .before .before .before .before) .args .snapshot .now) ((c .before .before .before .before .before .before .before .before .before .before .before .before .before .before) .args .count .0) ((c .before .before .before .before .before .before .before .before .before .before .before .before .before .before) .args .sid) ((c .before .before .before .before .before .before .before .before .before .before .before .before .before .before) .args .pages .now) ((c .before .before .before .before .before .before .before .before .before .before .before .before .before .before) .args .out .now) (sym (not-true _ (c .if1 .taken)) ∙ c .before .tables-formed .ensures))
+returns c =
+    let a = (c .before .before .before .before .before .before .before .before .before .before .before .before .before .before) .args in
+    left-alone (a .commits .now) (a .checkpoints .now) (a .index .now) (a .presence .now) (a .out .now) _ 20 (not-formed (a .volumes .now) (a .commits .now) (a .checkpoints .now) (a .index .now) (a .presence .now) (a .vid) (a .snapshot .now) (a .count .0) (a .sid) (a .pages .now) (a .out .now) (sym (not-true _ (c .if1 .taken)) ∙ c .before .tables-formed .ensures))
 
 arguments-number-requires : tie.Need-arguments-number-requires
 arguments-number-requires c κs = search needs
@@ -50,15 +52,18 @@ same-length-8 : tie.Need-same-length-8
 same-length-8 c = search needs
 
 returns-2 : tie.Need-returns-2
-returns-2 c = left-alone ((c .before .before .before .before .before .before .before .before .before .before .before .before .before .before .before .before) .args .commits .now) ((c .before .before .before .before .before .before .before .before .before .before .before .before .before .before .before .before) .args .checkpoints .now) ((c .before .before .before .before .before .before .before .before .before .before .before .before .before .before .before .before) .args .index .now) ((c .before .before .before .before .before .before .before .before .before .before .before .before .before .before .before .before) .args .presence .now) ((c .before .before .before .before .before .before .before .before .before .before .before .before .before .before .before .before) .args .out .now) _ (c .before .arguments-number .result) (bad-arguments ((c .before .before .before .before .before .before .before .before .before .before .before .before .before .before .before .before) .args .volumes .now) ((c .before .before .before .before .before .before .before .before .before .before .before .before .before .before .before .before) .args .commits .now) ((c .before .before .before .before .before .before .before .before .before .before .before .before .before .before .before .before) .args .checkpoints .now) ((c .before .before .before .before .before .before .before .before .before .before .before .before .before .before .before .before) .args .index .now) ((c .before .before .before .before .before .before .before .before .before .before .before .before .before .before .before .before) .args .presence .now) ((c .before .before .before .before .before .before .before .before .before .before .before .before .before .before .before .before) .args .vid) ((c .before .before .before .before .before .before .before .before .before .before .before .before .before .before .before .before) .args .snapshot .now) ((c .before .before .before .before .before .before .before .before .before .before .before .before .before .before .before .before) .args .count .0) ((c .before .before .before .before .before .before .before .before .before .before .before .before .before .before .before .before) .args .sid) ((c .before .before .before .before .before .before .before .before .before .before .before .before .before .before .before .before) .args .pages .now) ((c .before .before .before .before .before .before .before .before .before .before .before .before .before .before .before .before) .args .out .now) (sym (not-false _ (c .before .before .if1 .left)) ∙ c .before .before .before .tables-formed .ensures) (c .before .arguments-number .result) (c .before .arguments-number .ensures) (c .if2 .taken))
+returns-2 c =
+    let a = (c .before .before .before .before .before .before .before .before .before .before .before .before .before .before .before .before) .args in
+    left-alone (a .commits .now) (a .checkpoints .now) (a .index .now) (a .presence .now) (a .out .now) _ (c .before .arguments-number .result) (bad-arguments (a .volumes .now) (a .commits .now) (a .checkpoints .now) (a .index .now) (a .presence .now) (a .vid) (a .snapshot .now) (a .count .0) (a .sid) (a .pages .now) (a .out .now) (sym (not-false _ (c .before .before .if1 .left)) ∙ c .before .before .before .tables-formed .ensures) (c .before .arguments-number .result) (c .before .arguments-number .ensures) (c .if2 .taken))
 
 snapshot-arg-requires : tie.Need-snapshot-arg-requires
 snapshot-arg-requires c κs = search needs
 
 save-plan-requires : tie.Need-save-plan-requires
 save-plan-requires c κs =
-    let f = formed ((c .before .before .before .before .before .before .before .before .before .before .before .before .before .before .before .before .before .before .before) .args .volumes .now) ((c .before .before .before .before .before .before .before .before .before .before .before .before .before .before .before .before .before .before .before) .args .commits .now) ((c .before .before .before .before .before .before .before .before .before .before .before .before .before .before .before .before .before .before .before) .args .checkpoints .now) ((c .before .before .before .before .before .before .before .before .before .before .before .before .before .before .before .before .before .before .before) .args .index .now) ((c .before .before .before .before .before .before .before .before .before .before .before .before .before .before .before .before .before .before .before) .args .presence .now) (sym (sym (not-false _ (c .before .before .before .before .before .if1 .left)) ∙ c .before .before .before .before .before .before .tables-formed .ensures)) in
-    (f .volumes, f .commits, f .presence, few-ranges ((c .before .before .before .before .before .before .before .before .before .before .before .before .before .before .before .before .before .before .before) .args .snapshot .now) (c .snapshot-arg .result) (c .snapshot-arg .ensures))
+    let a = (c .before .before .before .before .before .before .before .before .before .before .before .before .before .before .before .before .before .before .before) .args in
+    let f = formed (a .volumes .now) (a .commits .now) (a .checkpoints .now) (a .index .now) (a .presence .now) (sym (sym (not-false _ (c .before .before .before .before .before .if1 .left)) ∙ c .before .before .before .before .before .before .tables-formed .ensures)) in
+    (f .volumes, f .commits, f .presence, few-ranges (a .snapshot .now) (c .snapshot-arg .result) (c .snapshot-arg .ensures))
 
 same-length-9 : tie.Need-same-length-9
 same-length-9 c = search needs
@@ -73,17 +78,22 @@ same-length-12 : tie.Need-same-length-12
 same-length-12 c = search needs
 
 returns-3 : tie.Need-returns-3
-returns-3 c = left-alone ((c .before .before .before .before .before .before .before .before .before .before .before .before .before .before .before .before .before .before .before .before .before .before) .args .commits .now) ((c .before .before .before .before .before .before .before .before .before .before .before .before .before .before .before .before .before .before .before .before .before .before) .args .checkpoints .now) ((c .before .before .before .before .before .before .before .before .before .before .before .before .before .before .before .before .before .before .before .before .before .before) .args .index .now) ((c .before .before .before .before .before .before .before .before .before .before .before .before .before .before .before .before .before .before .before .before .before .before) .args .presence .now) ((c .before .before .before .before .before .before .before .before .before .before .before .before .before .before .before .before .before .before .before .before .before .before) .args .out .now) _ (c .before .before .save-plan .result .code) (no-plan ((c .before .before .before .before .before .before .before .before .before .before .before .before .before .before .before .before .before .before .before .before .before .before) .args .volumes .now) ((c .before .before .before .before .before .before .before .before .before .before .before .before .before .before .before .before .before .before .before .before .before .before) .args .commits .now) ((c .before .before .before .before .before .before .before .before .before .before .before .before .before .before .before .before .before .before .before .before .before .before) .args .checkpoints .now) ((c .before .before .before .before .before .before .before .before .before .before .before .before .before .before .before .before .before .before .before .before .before .before) .args .index .now) ((c .before .before .before .before .before .before .before .before .before .before .before .before .before .before .before .before .before .before .before .before .before .before) .args .presence .now) ((c .before .before .before .before .before .before .before .before .before .before .before .before .before .before .before .before .before .before .before .before .before .before) .args .vid) ((c .before .before .before .before .before .before .before .before .before .before .before .before .before .before .before .before .before .before .before .before .before .before) .args .snapshot .now) ((c .before .before .before .before .before .before .before .before .before .before .before .before .before .before .before .before .before .before .before .before .before .before) .args .count .0) ((c .before .before .before .before .before .before .before .before .before .before .before .before .before .before .before .before .before .before .before .before .before .before) .args .sid) ((c .before .before .before .before .before .before .before .before .before .before .before .before .before .before .before .before .before .before .before .before .before .before) .args .pages .now) ((c .before .before .before .before .before .before .before .before .before .before .before .before .before .before .before .before .before .before .before .before .before .before) .args .out .now) (sym (not-false _ (c .before .before .before .before .before .before .before .before .if1 .left)) ∙ c .before .before .before .before .before .before .before .before .before .tables-formed .ensures) (sym (c .before .before .before .before .before .before .if2 .left) ∙ c .before .before .before .before .before .before .before .arguments-number .ensures) (c .before .before .save-plan .result .code) (planned-is (volumesIn ((c .before .before .before .before .before .before .before .before .before .before .before .before .before .before .before .before .before .before .before .before .before .before) .args .volumes .now)) (commitsIn ((c .before .before .before .before .before .before .before .before .before .before .before .before .before .before .before .before .before .before .before .before .before .before) .args .commits .now)) (presenceIn ((c .before .before .before .before .before .before .before .before .before .before .before .before .before .before .before .before .before .before .before .before .before .before) .args .presence .now)) ((c .before .before .before .before .before .before .before .before .before .before .before .before .before .before .before .before .before .before .before .before .before .before) .args .vid) ((c .before .before .before .before .before .before .before .before .before .before .before .before .before .before .before .before .before .before .before .before .before .before) .args .sid) ((c .before .before .before .before .before .before .before .before .before .before .before .before .before .before .before .before .before .before .before .before .before .before) .args .snapshot .now) (c .before .before .before .snapshot-arg .result) (c .before .before .before .snapshot-arg .ensures) (c .before .before .save-plan .result) (c .before .before .save-plan .ensures) ∙ says-no (c .before .before .save-plan .result) (c .before .before .save-plan .result .code) refl (c .if3 .taken)))
+returns-3 c =
+    let a = (c .before .before .before .before .before .before .before .before .before .before .before .before .before .before .before .before .before .before .before .before .before .before) .args in
+    left-alone (a .commits .now) (a .checkpoints .now) (a .index .now) (a .presence .now) (a .out .now) _ (c .before .before .save-plan .result .code) (no-plan (a .volumes .now) (a .commits .now) (a .checkpoints .now) (a .index .now) (a .presence .now) (a .vid) (a .snapshot .now) (a .count .0) (a .sid) (a .pages .now) (a .out .now) (sym (not-false _ (c .before .before .before .before .before .before .before .before .if1 .left)) ∙ c .before .before .before .before .before .before .before .before .before .tables-formed .ensures) (sym (c .before .before .before .before .before .before .if2 .left) ∙ c .before .before .before .before .before .before .before .arguments-number .ensures) (c .before .before .save-plan .result .code) (planned-is (volumesIn (a .volumes .now)) (commitsIn (a .commits .now)) (presenceIn (a .presence .now)) (a .vid) (a .sid) (a .snapshot .now) (c .before .before .before .snapshot-arg .result) (c .before .before .before .snapshot-arg .ensures) (c .before .before .save-plan .result) (c .before .before .save-plan .ensures) ∙ says-no (c .before .before .save-plan .result) (c .before .before .save-plan .result .code) refl (c .if3 .taken)))
 
 set-read-requires : tie.Need-set-read-requires
-set-read-requires c κs = omega (arith, set-long ((c .before .before .before .before .before .before .before .before .before .before .before .before .before .before .before .before .before .before .before .before .before .before .before .before) .args .pages .now) (good ((c .before .before .before .before .before .before .before .before .before .before .before .before .before .before .before .before .before .before .before .before .before .before .before .before) .args .snapshot .now) ((c .before .before .before .before .before .before .before .before .before .before .before .before .before .before .before .before .before .before .before .before .before .before .before .before) .args .pages .now) _ (sym (c .before .before .before .before .before .before .before .before .if2 .left) ∙ c .before .before .before .before .before .before .before .before .before .arguments-number .ensures) .set))
+set-read-requires c κs =
+    let a = (c .before .before .before .before .before .before .before .before .before .before .before .before .before .before .before .before .before .before .before .before .before .before .before .before) .args in
+    omega (arith, set-long (a .pages .now) (good (a .snapshot .now) (a .pages .now) _ (sym (c .before .before .before .before .before .before .before .before .if2 .left) ∙ c .before .before .before .before .before .before .before .before .before .arguments-number .ensures) .set))
 
 save-stored-requires : tie.Need-save-stored-requires
 save-stored-requires c κs =
-    let f = formed ((c .before .before .before .before .before .before .before .before .before .before .before .before .before .before .before .before .before .before .before .before .before .before .before .before .before .before .before .before .before .before) .args .volumes .now) ((c .before .before .before .before .before .before .before .before .before .before .before .before .before .before .before .before .before .before .before .before .before .before .before .before .before .before .before .before .before .before) .args .commits .now) ((c .before .before .before .before .before .before .before .before .before .before .before .before .before .before .before .before .before .before .before .before .before .before .before .before .before .before .before .before .before .before) .args .checkpoints .now) ((c .before .before .before .before .before .before .before .before .before .before .before .before .before .before .before .before .before .before .before .before .before .before .before .before .before .before .before .before .before .before) .args .index .now) ((c .before .before .before .before .before .before .before .before .before .before .before .before .before .before .before .before .before .before .before .before .before .before .before .before .before .before .before .before .before .before) .args .presence .now) (sym (sym (not-false _ (c .before .before .before .before .before .before .before .before .before .before .before .before .before .before .before .before .if1 .left)) ∙ c .before .before .before .before .before .before .before .before .before .before .before .before .before .before .before .before .before .tables-formed .ensures)) in
-    let a = good ((c .before .before .before .before .before .before .before .before .before .before .before .before .before .before .before .before .before .before .before .before .before .before .before .before .before .before .before .before .before .before) .args .snapshot .now) ((c .before .before .before .before .before .before .before .before .before .before .before .before .before .before .before .before .before .before .before .before .before .before .before .before .before .before .before .before .before .before) .args .pages .now) _ (sym (c .before .before .before .before .before .before .before .before .before .before .before .before .before .before .if2 .left) ∙ c .before .before .before .before .before .before .before .before .before .before .before .before .before .before .before .arguments-number .ensures) in
-    let g = goes (volumesIn ((c .before .before .before .before .before .before .before .before .before .before .before .before .before .before .before .before .before .before .before .before .before .before .before .before .before .before .before .before .before .before) .args .volumes .now)) (commitsIn ((c .before .before .before .before .before .before .before .before .before .before .before .before .before .before .before .before .before .before .before .before .before .before .before .before .before .before .before .before .before .before) .args .commits .now)) (presenceIn ((c .before .before .before .before .before .before .before .before .before .before .before .before .before .before .before .before .before .before .before .before .before .before .before .before .before .before .before .before .before .before) .args .presence .now)) ((c .before .before .before .before .before .before .before .before .before .before .before .before .before .before .before .before .before .before .before .before .before .before .before .before .before .before .before .before .before .before) .args .vid) _ ((c .before .before .before .before .before .before .before .before .before .before .before .before .before .before .before .before .before .before .before .before .before .before .before .before .before .before .before .before .before .before) .args .sid) (formed-rules volumes ((c .before .before .before .before .before .before .before .before .before .before .before .before .before .before .before .before .before .before .before .before .before .before .before .before .before .before .before .before .before .before) .args .volumes .now) (f .volumes)) _ _ (planned-is (volumesIn ((c .before .before .before .before .before .before .before .before .before .before .before .before .before .before .before .before .before .before .before .before .before .before .before .before .before .before .before .before .before .before) .args .volumes .now)) (commitsIn ((c .before .before .before .before .before .before .before .before .before .before .before .before .before .before .before .before .before .before .before .before .before .before .before .before .before .before .before .before .before .before) .args .commits .now)) (presenceIn ((c .before .before .before .before .before .before .before .before .before .before .before .before .before .before .before .before .before .before .before .before .before .before .before .before .before .before .before .before .before .before) .args .presence .now)) ((c .before .before .before .before .before .before .before .before .before .before .before .before .before .before .before .before .before .before .before .before .before .before .before .before .before .before .before .before .before .before) .args .vid) ((c .before .before .before .before .before .before .before .before .before .before .before .before .before .before .before .before .before .before .before .before .before .before .before .before .before .before .before .before .before .before) .args .sid) ((c .before .before .before .before .before .before .before .before .before .before .before .before .before .before .before .before .before .before .before .before .before .before .before .before .before .before .before .before .before .before) .args .snapshot .now) (c .before .before .before .before .before .before .before .before .before .before .before .snapshot-arg .result) (c .before .before .before .before .before .before .before .before .before .before .before .snapshot-arg .ensures) (c .before .before .before .before .before .before .before .before .before .before .save-plan .result) (c .before .before .before .before .before .before .before .before .before .before .save-plan .ensures) ∙ says-yes (c .before .before .before .before .before .before .before .before .before .before .save-plan .result) (c .before .before .before .before .before .before .before .before .if3 .left)) in
-    ((f .commits, f .checkpoints, f .index, f .presence), ((g .form, g .above, set-laid ((c .before .before .before .before .before .before .before .before .before .before .before .before .before .before .before .before .before .before .before .before .before .before .before .before .before .before .before .before .before .before) .args .pages .now) (a .set) (c .before .before .before .before .before .set-read .result) (c .before .before .before .before .before .set-read .ensures) .0), (g .free, a .place)))
+    let a = (c .before .before .before .before .before .before .before .before .before .before .before .before .before .before .before .before .before .before .before .before .before .before .before .before .before .before .before .before .before .before) .args in
+    let f = formed (a .volumes .now) (a .commits .now) (a .checkpoints .now) (a .index .now) (a .presence .now) (sym (sym (not-false _ (c .before .before .before .before .before .before .before .before .before .before .before .before .before .before .before .before .if1 .left)) ∙ c .before .before .before .before .before .before .before .before .before .before .before .before .before .before .before .before .before .tables-formed .ensures)) in
+    let o = good (a .snapshot .now) (a .pages .now) _ (sym (c .before .before .before .before .before .before .before .before .before .before .before .before .before .before .if2 .left) ∙ c .before .before .before .before .before .before .before .before .before .before .before .before .before .before .before .arguments-number .ensures) in
+    let g = goes (volumesIn (a .volumes .now)) (commitsIn (a .commits .now)) (presenceIn (a .presence .now)) (a .vid) _ (a .sid) (formed-rules volumes (a .volumes .now) (f .volumes)) _ _ (planned-is (volumesIn (a .volumes .now)) (commitsIn (a .commits .now)) (presenceIn (a .presence .now)) (a .vid) (a .sid) (a .snapshot .now) (c .before .before .before .before .before .before .before .before .before .before .before .snapshot-arg .result) (c .before .before .before .before .before .before .before .before .before .before .before .snapshot-arg .ensures) (c .before .before .before .before .before .before .before .before .before .before .save-plan .result) (c .before .before .before .before .before .before .before .before .before .before .save-plan .ensures) ∙ says-yes (c .before .before .before .before .before .before .before .before .before .before .save-plan .result) (c .before .before .before .before .before .before .before .before .if3 .left)) in
+    ((f .commits, f .checkpoints, f .index, f .presence), ((g .form, g .above, set-laid (a .pages .now) (o .set) (c .before .before .before .before .before .set-read .result) (c .before .before .before .before .before .set-read .ensures) .0), (g .free, o .place)))
 
 same-length-13 : tie.Need-same-length-13
 same-length-13 c = search needs
@@ -102,11 +112,12 @@ same-length-17 c = search needs
 
 returns-4 : tie.Need-returns-4
 returns-4 c =
-    let a = good ((c .before .before .before .before .before .before .before .before .before .before .before .before .before .before .before .before .before .before .before .before .before .before .before .before .before .before .before .before .before .before .before .before .before .before .before .before .before .before .before .before .before) .args .snapshot .now) ((c .before .before .before .before .before .before .before .before .before .before .before .before .before .before .before .before .before .before .before .before .before .before .before .before .before .before .before .before .before .before .before .before .before .before .before .before .before .before .before .before .before) .args .pages .now) _ (sym (c .before .before .before .before .before .before .before .before .before .before .before .before .before .before .before .before .before .before .before .before .before .before .before .before .before .if2 .left) ∙ c .before .before .before .before .before .before .before .before .before .before .before .before .before .before .before .before .before .before .before .before .before .before .before .before .before .before .arguments-number .ensures) in
-    leaves-same ((c .before .before .before .before .before .before .before .before .before .before .before .before .before .before .before .before .before .before .before .before .before .before .before .before .before .before .before .before .before .before .before .before .before .before .before .before .before .before .before .before .before) .args .commits .now) ((c .before .before .before .before .before .before .before .before .before .before .before .before .before .before .before .before .before .before .before .before .before .before .before .before .before .before .before .before .before .before .before .before .before .before .before .before .before .before .before .before .before) .args .checkpoints .now) ((c .before .before .before .before .before .before .before .before .before .before .before .before .before .before .before .before .before .before .before .before .before .before .before .before .before .before .before .before .before .before .before .before .before .before .before .before .before .before .before .before .before) .args .index .now) ((c .before .before .before .before .before .before .before .before .before .before .before .before .before .before .before .before .before .before .before .before .before .before .before .before .before .before .before .before .before .before .before .before .before .before .before .before .before .before .before .before .before) .args .presence .now) ((c .before .before .before .before .before .before .before .before .before .before .before .before .before .before .before .before .before .before .before .before .before .before .before .before .before .before .before .before .before .before .before .before .before .before .before .before .before .before .before .before .before) .args .out .now) _ _
-    (ap (λ (ws : Pages). stored (logsIn ((c .before .before .before .before .before .before .before .before .before .before .before .before .before .before .before .before .before .before .before .before .before .before .before .before .before .before .before .before .before .before .before .before .before .before .before .before .before .before .before .before .before) .args .commits .now) ((c .before .before .before .before .before .before .before .before .before .before .before .before .before .before .before .before .before .before .before .before .before .before .before .before .before .before .before .before .before .before .before .before .before .before .before .before .before .before .before .before .before) .args .checkpoints .now) ((c .before .before .before .before .before .before .before .before .before .before .before .before .before .before .before .before .before .before .before .before .before .before .before .before .before .before .before .before .before .before .before .before .before .before .before .before .before .before .before .before .before) .args .index .now)) (presenceIn ((c .before .before .before .before .before .before .before .before .before .before .before .before .before .before .before .before .before .before .before .before .before .before .before .before .before .before .before .before .before .before .before .before .before .before .before .before .before .before .before .before .before) .args .presence .now)) (volumeSays (c .before .before .before .before .before .before .before .before .before .before .before .before .before .before .before .before .before .before .before .before .before .save-plan .result .volume)) (c .before .before .before .before .before .before .before .before .before .before .before .before .before .before .before .before .before .before .before .before .before .save-plan .result .lsn .0) ((c .before .before .before .before .before .before .before .before .before .before .before .before .before .before .before .before .before .before .before .before .before .before .before .before .before .before .before .before .before .before .before .before .before .before .before .before .before .before .before .before .before) .args .count .0) ((c .before .before .before .before .before .before .before .before .before .before .before .before .before .before .before .before .before .before .before .before .before .before .before .before .before .before .before .before .before .before .before .before .before .before .before .before .before .before .before .before .before) .args .sid) ws)
-    (set-laid ((c .before .before .before .before .before .before .before .before .before .before .before .before .before .before .before .before .before .before .before .before .before .before .before .before .before .before .before .before .before .before .before .before .before .before .before .before .before .before .before .before .before) .args .pages .now) (a .set) (c .before .before .before .before .before .before .before .before .before .before .before .before .before .before .before .before .set-read .result) (c .before .before .before .before .before .before .before .before .before .before .before .before .before .before .before .before .set-read .ensures) .1)
-    ∙ by-store ((c .before .before .before .before .before .before .before .before .before .before .before .before .before .before .before .before .before .before .before .before .before .before .before .before .before .before .before .before .before .before .before .before .before .before .before .before .before .before .before .before .before) .args .volumes .now) ((c .before .before .before .before .before .before .before .before .before .before .before .before .before .before .before .before .before .before .before .before .before .before .before .before .before .before .before .before .before .before .before .before .before .before .before .before .before .before .before .before .before) .args .commits .now) ((c .before .before .before .before .before .before .before .before .before .before .before .before .before .before .before .before .before .before .before .before .before .before .before .before .before .before .before .before .before .before .before .before .before .before .before .before .before .before .before .before .before) .args .checkpoints .now) ((c .before .before .before .before .before .before .before .before .before .before .before .before .before .before .before .before .before .before .before .before .before .before .before .before .before .before .before .before .before .before .before .before .before .before .before .before .before .before .before .before .before) .args .index .now) ((c .before .before .before .before .before .before .before .before .before .before .before .before .before .before .before .before .before .before .before .before .before .before .before .before .before .before .before .before .before .before .before .before .before .before .before .before .before .before .before .before .before) .args .presence .now) ((c .before .before .before .before .before .before .before .before .before .before .before .before .before .before .before .before .before .before .before .before .before .before .before .before .before .before .before .before .before .before .before .before .before .before .before .before .before .before .before .before .before) .args .vid) ((c .before .before .before .before .before .before .before .before .before .before .before .before .before .before .before .before .before .before .before .before .before .before .before .before .before .before .before .before .before .before .before .before .before .before .before .before .before .before .before .before .before) .args .snapshot .now) ((c .before .before .before .before .before .before .before .before .before .before .before .before .before .before .before .before .before .before .before .before .before .before .before .before .before .before .before .before .before .before .before .before .before .before .before .before .before .before .before .before .before) .args .count .0) ((c .before .before .before .before .before .before .before .before .before .before .before .before .before .before .before .before .before .before .before .before .before .before .before .before .before .before .before .before .before .before .before .before .before .before .before .before .before .before .before .before .before) .args .sid) ((c .before .before .before .before .before .before .before .before .before .before .before .before .before .before .before .before .before .before .before .before .before .before .before .before .before .before .before .before .before .before .before .before .before .before .before .before .before .before .before .before .before) .args .pages .now) ((c .before .before .before .before .before .before .before .before .before .before .before .before .before .before .before .before .before .before .before .before .before .before .before .before .before .before .before .before .before .before .before .before .before .before .before .before .before .before .before .before .before) .args .out .now) (sym (not-false _ (c .before .before .before .before .before .before .before .before .before .before .before .before .before .before .before .before .before .before .before .before .before .before .before .before .before .before .before .if1 .left)) ∙ c .before .before .before .before .before .before .before .before .before .before .before .before .before .before .before .before .before .before .before .before .before .before .before .before .before .before .before .before .tables-formed .ensures) (sym (c .before .before .before .before .before .before .before .before .before .before .before .before .before .before .before .before .before .before .before .before .before .before .before .before .before .if2 .left) ∙ c .before .before .before .before .before .before .before .before .before .before .before .before .before .before .before .before .before .before .before .before .before .before .before .before .before .before .arguments-number .ensures) (volumeSays (c .before .before .before .before .before .before .before .before .before .before .before .before .before .before .before .before .before .before .before .before .before .save-plan .result .volume)) (c .before .before .before .before .before .before .before .before .before .before .before .before .before .before .before .before .before .before .before .before .before .save-plan .result .lsn .0) (planned-is (volumesIn ((c .before .before .before .before .before .before .before .before .before .before .before .before .before .before .before .before .before .before .before .before .before .before .before .before .before .before .before .before .before .before .before .before .before .before .before .before .before .before .before .before .before) .args .volumes .now)) (commitsIn ((c .before .before .before .before .before .before .before .before .before .before .before .before .before .before .before .before .before .before .before .before .before .before .before .before .before .before .before .before .before .before .before .before .before .before .before .before .before .before .before .before .before) .args .commits .now)) (presenceIn ((c .before .before .before .before .before .before .before .before .before .before .before .before .before .before .before .before .before .before .before .before .before .before .before .before .before .before .before .before .before .before .before .before .before .before .before .before .before .before .before .before .before) .args .presence .now)) ((c .before .before .before .before .before .before .before .before .before .before .before .before .before .before .before .before .before .before .before .before .before .before .before .before .before .before .before .before .before .before .before .before .before .before .before .before .before .before .before .before .before) .args .vid) ((c .before .before .before .before .before .before .before .before .before .before .before .before .before .before .before .before .before .before .before .before .before .before .before .before .before .before .before .before .before .before .before .before .before .before .before .before .before .before .before .before .before) .args .sid) ((c .before .before .before .before .before .before .before .before .before .before .before .before .before .before .before .before .before .before .before .before .before .before .before .before .before .before .before .before .before .before .before .before .before .before .before .before .before .before .before .before .before) .args .snapshot .now) (c .before .before .before .before .before .before .before .before .before .before .before .before .before .before .before .before .before .before .before .before .before .before .snapshot-arg .result) (c .before .before .before .before .before .before .before .before .before .before .before .before .before .before .before .before .before .before .before .before .before .before .snapshot-arg .ensures) (c .before .before .before .before .before .before .before .before .before .before .before .before .before .before .before .before .before .before .before .before .before .save-plan .result) (c .before .before .before .before .before .before .before .before .before .before .before .before .before .before .before .before .before .before .before .before .before .save-plan .ensures) ∙ says-yes (c .before .before .before .before .before .before .before .before .before .before .before .before .before .before .before .before .before .before .before .before .before .save-plan .result) (c .before .before .before .before .before .before .before .before .before .before .before .before .before .before .before .before .before .before .before .if3 .left)))
+    let a = (c .before .before .before .before .before .before .before .before .before .before .before .before .before .before .before .before .before .before .before .before .before .before .before .before .before .before .before .before .before .before .before .before .before .before .before .before .before .before .before .before .before) .args in
+    let o = good (a .snapshot .now) (a .pages .now) _ (sym (c .before .before .before .before .before .before .before .before .before .before .before .before .before .before .before .before .before .before .before .before .before .before .before .before .before .if2 .left) ∙ c .before .before .before .before .before .before .before .before .before .before .before .before .before .before .before .before .before .before .before .before .before .before .before .before .before .before .arguments-number .ensures) in
+    leaves-same (a .commits .now) (a .checkpoints .now) (a .index .now) (a .presence .now) (a .out .now) _ _
+    (ap (λ (ws : Pages). stored (logsIn (a .commits .now) (a .checkpoints .now) (a .index .now)) (presenceIn (a .presence .now)) (volumeSays (c .before .before .before .before .before .before .before .before .before .before .before .before .before .before .before .before .before .before .before .before .before .save-plan .result .volume)) (c .before .before .before .before .before .before .before .before .before .before .before .before .before .before .before .before .before .before .before .before .before .save-plan .result .lsn .0) (a .count .0) (a .sid) ws)
+    (set-laid (a .pages .now) (o .set) (c .before .before .before .before .before .before .before .before .before .before .before .before .before .before .before .before .set-read .result) (c .before .before .before .before .before .before .before .before .before .before .before .before .before .before .before .before .set-read .ensures) .1)
+    ∙ by-store (a .volumes .now) (a .commits .now) (a .checkpoints .now) (a .index .now) (a .presence .now) (a .vid) (a .snapshot .now) (a .count .0) (a .sid) (a .pages .now) (a .out .now) (sym (not-false _ (c .before .before .before .before .before .before .before .before .before .before .before .before .before .before .before .before .before .before .before .before .before .before .before .before .before .before .before .if1 .left)) ∙ c .before .before .before .before .before .before .before .before .before .before .before .before .before .before .before .before .before .before .before .before .before .before .before .before .before .before .before .before .tables-formed .ensures) (sym (c .before .before .before .before .before .before .before .before .before .before .before .before .before .before .before .before .before .before .before .before .before .before .before .before .before .if2 .left) ∙ c .before .before .before .before .before .before .before .before .before .before .before .before .before .before .before .before .before .before .before .before .before .before .before .before .before .before .arguments-number .ensures) (volumeSays (c .before .before .before .before .before .before .before .before .before .before .before .before .before .before .before .before .before .before .before .before .before .save-plan .result .volume)) (c .before .before .before .before .before .before .before .before .before .before .before .before .before .before .before .before .before .before .before .before .before .save-plan .result .lsn .0) (planned-is (volumesIn (a .volumes .now)) (commitsIn (a .commits .now)) (presenceIn (a .presence .now)) (a .vid) (a .sid) (a .snapshot .now) (c .before .before .before .before .before .before .before .before .before .before .before .before .before .before .before .before .before .before .before .before .before .before .snapshot-arg .result) (c .before .before .before .before .before .before .before .before .before .before .before .before .before .before .before .before .before .before .before .before .before .before .snapshot-arg .ensures) (c .before .before .before .before .before .before .before .before .before .before .before .before .before .before .before .before .before .before .before .before .before .save-plan .result) (c .before .before .before .before .before .before .before .before .before .before .before .before .before .before .before .before .before .before .before .before .before .save-plan .ensures) ∙ says-yes (c .before .before .before .before .before .before .before .before .before .before .before .before .before .before .before .before .before .before .before .before .before .save-plan .result) (c .before .before .before .before .before .before .before .before .before .before .before .before .before .before .before .before .before .before .before .if3 .left)))
     _ _ _ _ _ _ (c .before .before .before .before .before .before .before .before .before .before .save-stored .ensures)
 
 pub save-spec : {M : Type 1} → statement M

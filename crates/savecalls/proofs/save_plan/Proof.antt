@@ -26,7 +26,9 @@ no-plan-requires : tie.Need-no-plan-requires
 no-plan-requires c κs = search needs
 
 returns : tie.Need-returns
-returns c = says-no (c .no-plan .result) 4 (c .no-plan .ensures) (omega arith) ∙ no-volume (volumesIn ((c .before .before .before .before .before .before .before) .args .volumes .now)) (commitsIn ((c .before .before .before .before .before .before .before) .args .commits .now)) (presenceIn ((c .before .before .before .before .before .before .before) .args .presence .now)) ((c .before .before .before .before .before .before .before) .args .vid) (snapshotSays ((c .before .before .before .before .before .before .before) .args .s)) ((c .before .before .before .before .before .before .before) .args .sid) (nowhere ((c .before .before .before .before .before .before .before) .args .volumes .now) ((c .before .before .before .before .before .before .before) .args .vid) ((c .before .before .before .before .before .before .before) .pre .0) _ _ (c .before .before .before .find-volume .ensures .says) (c .before .enum-told .given .1))
+returns c =
+    let a = (c .before .before .before .before .before .before .before) .args in
+    says-no (c .no-plan .result) 4 (c .no-plan .ensures) (omega arith) ∙ no-volume (volumesIn (a .volumes .now)) (commitsIn (a .commits .now)) (presenceIn (a .presence .now)) (a .vid) (snapshotSays (a .s)) (a .sid) (nowhere (a .volumes .now) (a .vid) ((c .before .before .before .before .before .before .before) .pre .0) _ _ (c .before .before .before .find-volume .ensures .says) (c .before .enum-told .given .1))
 
 volume-at-requires : tie.Need-volume-at-requires
 volume-at-requires c κs = ((c .before .before .before .before .before .before .before) .pre .0, at-in 117 17 ((c .before .before .before .before .before .before .before) .args .volumes .now) _ _ _ (c .before .before .before .find-volume .ensures .place) (c .before .i .given .1))
@@ -38,7 +40,9 @@ no-plan-requires-2 : tie.Need-no-plan-requires-2
 no-plan-requires-2 c κs = search needs
 
 returns-2 : tie.Need-returns-2
-returns-2 c = says-no (c .no-plan2 .result) 7 (c .no-plan2 .ensures) (omega arith) ∙ not-latest (volumesIn ((c .before .before .before .before .before .before .before .before .before .before .before .before) .args .volumes .now)) (commitsIn ((c .before .before .before .before .before .before .before .before .before .before .before .before) .args .commits .now)) (presenceIn ((c .before .before .before .before .before .before .before .before .before .before .before .before) .args .presence .now)) ((c .before .before .before .before .before .before .before .before .before .before .before .before) .args .vid) (snapshotSays ((c .before .before .before .before .before .before .before .before .before .before .before .before) .args .s)) ((c .before .before .before .before .before .before .before .before .before .before .before .before) .args .sid) (volumeSays (c .before .before .before .before .volume-at .result)) (found-says ((c .before .before .before .before .before .before .before .before .before .before .before .before) .args .volumes .now) ((c .before .before .before .before .before .before .before .before .before .before .before .before) .args .vid) (c .before .before .before .before .before .before .i .given .0 .0) (c .before .before .before .before .volume-at .result) (here ((c .before .before .before .before .before .before .before .before .before .before .before .before) .args .volumes .now) ((c .before .before .before .before .before .before .before .before .before .before .before .before) .args .vid) ((c .before .before .before .before .before .before .before .before .before .before .before .before) .pre .0) _ _ (c .before .before .before .before .before .before .before .before .find-volume .ensures .says) (c .before .before .before .before .before .before .i .given .1)) (c .before .before .before .before .volume-at .ensures)) (sym (not-true _ (c .before .if1 .taken)) ∙ c .before .before .is-latest .ensures)
+returns-2 c =
+    let a = (c .before .before .before .before .before .before .before .before .before .before .before .before) .args in
+    says-no (c .no-plan2 .result) 7 (c .no-plan2 .ensures) (omega arith) ∙ not-latest (volumesIn (a .volumes .now)) (commitsIn (a .commits .now)) (presenceIn (a .presence .now)) (a .vid) (snapshotSays (a .s)) (a .sid) (volumeSays (c .before .before .before .before .volume-at .result)) (found-says (a .volumes .now) (a .vid) (c .before .before .before .before .before .before .i .given .0 .0) (c .before .before .before .before .volume-at .result) (here (a .volumes .now) (a .vid) ((c .before .before .before .before .before .before .before .before .before .before .before .before) .pre .0) _ _ (c .before .before .before .before .before .before .before .before .find-volume .ensures .says) (c .before .before .before .before .before .before .i .given .1)) (c .before .before .before .before .volume-at .ensures)) (sym (not-true _ (c .before .if1 .taken)) ∙ c .before .before .is-latest .ensures)
 
 next-lsn-requires : tie.Need-next-lsn-requires
 next-lsn-requires c κs = search needs
@@ -53,7 +57,9 @@ no-plan-requires-3 : tie.Need-no-plan-requires-3
 no-plan-requires-3 c κs = search needs
 
 returns-3 : tie.Need-returns-3
-returns-3 c = says-no (c .no-plan3 .result) 18 (c .no-plan3 .ensures) (omega arith) ∙ no-lsn (volumesIn ((c .before .before .before .before .before .before .before .before .before .before .before .before .before .before .before) .args .volumes .now)) (commitsIn ((c .before .before .before .before .before .before .before .before .before .before .before .before .before .before .before) .args .commits .now)) (presenceIn ((c .before .before .before .before .before .before .before .before .before .before .before .before .before .before .before) .args .presence .now)) ((c .before .before .before .before .before .before .before .before .before .before .before .before .before .before .before) .args .vid) (snapshotSays ((c .before .before .before .before .before .before .before .before .before .before .before .before .before .before .before) .args .s)) ((c .before .before .before .before .before .before .before .before .before .before .before .before .before .before .before) .args .sid) (volumeSays (c .before .before .before .before .before .before .before .volume-at .result)) (found-says ((c .before .before .before .before .before .before .before .before .before .before .before .before .before .before .before) .args .volumes .now) ((c .before .before .before .before .before .before .before .before .before .before .before .before .before .before .before) .args .vid) (c .before .before .before .before .before .before .before .before .before .i .given .0 .0) (c .before .before .before .before .before .before .before .volume-at .result) (here ((c .before .before .before .before .before .before .before .before .before .before .before .before .before .before .before) .args .volumes .now) ((c .before .before .before .before .before .before .before .before .before .before .before .before .before .before .before) .args .vid) ((c .before .before .before .before .before .before .before .before .before .before .before .before .before .before .before) .pre .0) _ _ (c .before .before .before .before .before .before .before .before .before .before .before .find-volume .ensures .says) (c .before .before .before .before .before .before .before .before .before .i .given .1)) (c .before .before .before .before .before .before .before .volume-at .ensures)) (sym (not-false _ (c .before .before .before .before .if1 .left)) ∙ c .before .before .before .before .before .is-latest .ensures) _ (ap lsnSays (sym (c .before .enum-told2 .given .1)) ∙ c .before .before .before .next-lsn .ensures)
+returns-3 c =
+    let a = (c .before .before .before .before .before .before .before .before .before .before .before .before .before .before .before) .args in
+    says-no (c .no-plan3 .result) 18 (c .no-plan3 .ensures) (omega arith) ∙ no-lsn (volumesIn (a .volumes .now)) (commitsIn (a .commits .now)) (presenceIn (a .presence .now)) (a .vid) (snapshotSays (a .s)) (a .sid) (volumeSays (c .before .before .before .before .before .before .before .volume-at .result)) (found-says (a .volumes .now) (a .vid) (c .before .before .before .before .before .before .before .before .before .i .given .0 .0) (c .before .before .before .before .before .before .before .volume-at .result) (here (a .volumes .now) (a .vid) ((c .before .before .before .before .before .before .before .before .before .before .before .before .before .before .before) .pre .0) _ _ (c .before .before .before .before .before .before .before .before .before .before .before .find-volume .ensures .says) (c .before .before .before .before .before .before .before .before .before .i .given .1)) (c .before .before .before .before .before .before .before .volume-at .ensures)) (sym (not-false _ (c .before .before .before .before .if1 .left)) ∙ c .before .before .before .before .before .is-latest .ensures) _ (ap lsnSays (sym (c .before .enum-told2 .given .1)) ∙ c .before .before .before .next-lsn .ensures)
 
 in-use-requires : tie.Need-in-use-requires
 in-use-requires c κs = search needs
@@ -62,10 +68,14 @@ no-plan-requires-4 : tie.Need-no-plan-requires-4
 no-plan-requires-4 c κs = search needs
 
 returns-4 : tie.Need-returns-4
-returns-4 c = says-no (c .no-plan4 .result) 5 (c .no-plan4 .ensures) (omega arith) ∙ used (volumesIn ((c .before .before .before .before .before .before .before .before .before .before .before .before .before .before .before .before .before .before) .args .volumes .now)) (commitsIn ((c .before .before .before .before .before .before .before .before .before .before .before .before .before .before .before .before .before .before) .args .commits .now)) (presenceIn ((c .before .before .before .before .before .before .before .before .before .before .before .before .before .before .before .before .before .before) .args .presence .now)) ((c .before .before .before .before .before .before .before .before .before .before .before .before .before .before .before .before .before .before) .args .vid) (snapshotSays ((c .before .before .before .before .before .before .before .before .before .before .before .before .before .before .before .before .before .before) .args .s)) ((c .before .before .before .before .before .before .before .before .before .before .before .before .before .before .before .before .before .before) .args .sid) (volumeSays (c .before .before .before .before .before .before .before .before .before .before .volume-at .result)) (found-says ((c .before .before .before .before .before .before .before .before .before .before .before .before .before .before .before .before .before .before) .args .volumes .now) ((c .before .before .before .before .before .before .before .before .before .before .before .before .before .before .before .before .before .before) .args .vid) (c .before .before .before .before .before .before .before .before .before .before .before .before .i .given .0 .0) (c .before .before .before .before .before .before .before .before .before .before .volume-at .result) (here ((c .before .before .before .before .before .before .before .before .before .before .before .before .before .before .before .before .before .before) .args .volumes .now) ((c .before .before .before .before .before .before .before .before .before .before .before .before .before .before .before .before .before .before) .args .vid) ((c .before .before .before .before .before .before .before .before .before .before .before .before .before .before .before .before .before .before) .pre .0) _ _ (c .before .before .before .before .before .before .before .before .before .before .before .before .before .before .find-volume .ensures .says) (c .before .before .before .before .before .before .before .before .before .before .before .before .i .given .1)) (c .before .before .before .before .before .before .before .before .before .before .volume-at .ensures)) (sym (not-false _ (c .before .before .before .before .before .before .before .if1 .left)) ∙ c .before .before .before .before .before .before .before .before .is-latest .ensures) (c .before .before .before .before .lsn .given .0 .0 .0) (ap lsnSays (sym (c .before .before .before .before .lsn .given .1)) ∙ c .before .before .before .before .before .before .next-lsn .ensures) (sym (c .before .if2 .taken) ∙ c .before .before .in-use .ensures)
+returns-4 c =
+    let a = (c .before .before .before .before .before .before .before .before .before .before .before .before .before .before .before .before .before .before) .args in
+    says-no (c .no-plan4 .result) 5 (c .no-plan4 .ensures) (omega arith) ∙ used (volumesIn (a .volumes .now)) (commitsIn (a .commits .now)) (presenceIn (a .presence .now)) (a .vid) (snapshotSays (a .s)) (a .sid) (volumeSays (c .before .before .before .before .before .before .before .before .before .before .volume-at .result)) (found-says (a .volumes .now) (a .vid) (c .before .before .before .before .before .before .before .before .before .before .before .before .i .given .0 .0) (c .before .before .before .before .before .before .before .before .before .before .volume-at .result) (here (a .volumes .now) (a .vid) ((c .before .before .before .before .before .before .before .before .before .before .before .before .before .before .before .before .before .before) .pre .0) _ _ (c .before .before .before .before .before .before .before .before .before .before .before .before .before .before .find-volume .ensures .says) (c .before .before .before .before .before .before .before .before .before .before .before .before .i .given .1)) (c .before .before .before .before .before .before .before .before .before .before .volume-at .ensures)) (sym (not-false _ (c .before .before .before .before .before .before .before .if1 .left)) ∙ c .before .before .before .before .before .before .before .before .is-latest .ensures) (c .before .before .before .before .lsn .given .0 .0 .0) (ap lsnSays (sym (c .before .before .before .before .lsn .given .1)) ∙ c .before .before .before .before .before .before .next-lsn .ensures) (sym (c .before .if2 .taken) ∙ c .before .before .in-use .ensures)
 
 returns-5 : tie.Need-returns-5
-returns-5 c = unused (volumesIn ((c .before .before .before .before .before .before .before .before .before .before .before .before .before .before .before .before .before) .args .volumes .now)) (commitsIn ((c .before .before .before .before .before .before .before .before .before .before .before .before .before .before .before .before .before) .args .commits .now)) (presenceIn ((c .before .before .before .before .before .before .before .before .before .before .before .before .before .before .before .before .before) .args .presence .now)) ((c .before .before .before .before .before .before .before .before .before .before .before .before .before .before .before .before .before) .args .vid) (snapshotSays ((c .before .before .before .before .before .before .before .before .before .before .before .before .before .before .before .before .before) .args .s)) ((c .before .before .before .before .before .before .before .before .before .before .before .before .before .before .before .before .before) .args .sid) (volumeSays (c .before .before .before .before .before .before .before .before .before .volume-at .result)) (found-says ((c .before .before .before .before .before .before .before .before .before .before .before .before .before .before .before .before .before) .args .volumes .now) ((c .before .before .before .before .before .before .before .before .before .before .before .before .before .before .before .before .before) .args .vid) (c .before .before .before .before .before .before .before .before .before .before .before .i .given .0 .0) (c .before .before .before .before .before .before .before .before .before .volume-at .result) (here ((c .before .before .before .before .before .before .before .before .before .before .before .before .before .before .before .before .before) .args .volumes .now) ((c .before .before .before .before .before .before .before .before .before .before .before .before .before .before .before .before .before) .args .vid) ((c .before .before .before .before .before .before .before .before .before .before .before .before .before .before .before .before .before) .pre .0) _ _ (c .before .before .before .before .before .before .before .before .before .before .before .before .before .find-volume .ensures .says) (c .before .before .before .before .before .before .before .before .before .before .before .i .given .1)) (c .before .before .before .before .before .before .before .before .before .volume-at .ensures)) (sym (not-false _ (c .before .before .before .before .before .before .if1 .left)) ∙ c .before .before .before .before .before .before .before .is-latest .ensures) (c .before .before .before .lsn .given .0 .0 .0) (ap lsnSays (sym (c .before .before .before .lsn .given .1)) ∙ c .before .before .before .before .before .next-lsn .ensures) (sym (c .if2 .left) ∙ c .before .in-use .ensures)
+returns-5 c =
+    let a = (c .before .before .before .before .before .before .before .before .before .before .before .before .before .before .before .before .before) .args in
+    unused (volumesIn (a .volumes .now)) (commitsIn (a .commits .now)) (presenceIn (a .presence .now)) (a .vid) (snapshotSays (a .s)) (a .sid) (volumeSays (c .before .before .before .before .before .before .before .before .before .volume-at .result)) (found-says (a .volumes .now) (a .vid) (c .before .before .before .before .before .before .before .before .before .before .before .i .given .0 .0) (c .before .before .before .before .before .before .before .before .before .volume-at .result) (here (a .volumes .now) (a .vid) ((c .before .before .before .before .before .before .before .before .before .before .before .before .before .before .before .before .before) .pre .0) _ _ (c .before .before .before .before .before .before .before .before .before .before .before .before .before .find-volume .ensures .says) (c .before .before .before .before .before .before .before .before .before .before .before .i .given .1)) (c .before .before .before .before .before .before .before .before .before .volume-at .ensures)) (sym (not-false _ (c .before .before .before .before .before .before .if1 .left)) ∙ c .before .before .before .before .before .before .before .is-latest .ensures) (c .before .before .before .lsn .given .0 .0 .0) (ap lsnSays (sym (c .before .before .before .lsn .given .1)) ∙ c .before .before .before .before .before .next-lsn .ensures) (sym (c .if2 .left) ∙ c .before .in-use .ensures)
 
 pub save-plan-spec : {M : Type 1} → statement M
 save-plan-spec =

@@ -17,7 +17,9 @@ slice-aggregate-write-room : tie.Need-slice-aggregate-write-room
 slice-aggregate-write-room c = search needs
 
 write-room-requires : tie.Need-write-room-requires
-write-room-requires c κs = (((c .before .before .before .before .before .before .before .before .before .before) .pre .0 .0, (c .before .before .before .before .before .before .before .before .before .before) .pre .0 .1, (c .before .before .before .before .before .before .before .before .before .before) .pre .0 .2), is-commit ((c .before .before .before .before .before .before .before .before .before .before) .args .commits .now) ((c .before .before .before .before .before .before .before .before .before .before) .args .checkpoints .now) ((c .before .before .before .before .before .before .before .before .before .before) .args .index .now) ((c .before .before .before .before .before .before .before .before .before .before) .args .presence .now) ((c .before .before .before .before .before .before .before .before .before .before) .args .out .now) (volumeSays ((c .before .before .before .before .before .before .before .before .before .before) .args .v)) ((c .before .before .before .before .before .before .before .before .before .before) .args .lsn .0) ((c .before .before .before .before .before .before .before .before .before .before) .args .count .0) ((c .before .before .before .before .before .before .before .before .before .before) .args .sid) (shown ((c .before .before .before .before .before .before .before .before .before .before) .args .set)) (c .before .before .before .before .saved-commit .ensures .1) (c .before .before .before .before .saved-commit .result) (c .before .before .before .before .saved-commit .ensures .0))
+write-room-requires c κs =
+    let a = (c .before .before .before .before .before .before .before .before .before .before) .args in
+    (((c .before .before .before .before .before .before .before .before .before .before) .pre .0 .0, (c .before .before .before .before .before .before .before .before .before .before) .pre .0 .1, (c .before .before .before .before .before .before .before .before .before .before) .pre .0 .2), is-commit (a .commits .now) (a .checkpoints .now) (a .index .now) (a .presence .now) (a .out .now) (volumeSays (a .v)) (a .lsn .0) (a .count .0) (a .sid) (shown (a .set)) (c .before .before .before .before .saved-commit .ensures .1) (c .before .before .before .before .saved-commit .result) (c .before .before .before .before .saved-commit .ensures .0))
 
 same-length : tie.Need-same-length
 same-length c = search needs
@@ -29,7 +31,9 @@ same-length-3 : tie.Need-same-length-3
 same-length-3 c = search needs
 
 returns : tie.Need-returns
-returns c = left-alone ((c .before .before .before .before .before .before .before .before .before .before .before .before) .args .commits .now) ((c .before .before .before .before .before .before .before .before .before .before .before .before) .args .checkpoints .now) ((c .before .before .before .before .before .before .before .before .before .before .before .before) .args .index .now) ((c .before .before .before .before .before .before .before .before .before .before .before .before) .args .presence .now) ((c .before .before .before .before .before .before .before .before .before .before .before .before) .args .out .now) _ 19 (no-logs ((c .before .before .before .before .before .before .before .before .before .before .before .before) .args .commits .now) ((c .before .before .before .before .before .before .before .before .before .before .before .before) .args .checkpoints .now) ((c .before .before .before .before .before .before .before .before .before .before .before .before) .args .index .now) ((c .before .before .before .before .before .before .before .before .before .before .before .before) .args .presence .now) ((c .before .before .before .before .before .before .before .before .before .before .before .before) .args .out .now) (volumeSays ((c .before .before .before .before .before .before .before .before .before .before .before .before) .args .v)) ((c .before .before .before .before .before .before .before .before .before .before .before .before) .args .lsn .0) ((c .before .before .before .before .before .before .before .before .before .before .before .before) .args .count .0) ((c .before .before .before .before .before .before .before .before .before .before .before .before) .args .sid) (shown ((c .before .before .before .before .before .before .before .before .before .before .before .before) .args .set)) (sym (not-true _ (c .if1 .taken)) ∙ c .before .write-room .ensures ∙ same-room ((c .before .before .before .before .before .before .before .before .before .before .before .before) .args .commits .now) ((c .before .before .before .before .before .before .before .before .before .before .before .before) .args .checkpoints .now) ((c .before .before .before .before .before .before .before .before .before .before .before .before) .args .index .now) ((c .before .before .before .before .before .before .before .before .before .before .before .before) .args .presence .now) ((c .before .before .before .before .before .before .before .before .before .before .before .before) .args .out .now) (volumeSays ((c .before .before .before .before .before .before .before .before .before .before .before .before) .args .v)) ((c .before .before .before .before .before .before .before .before .before .before .before .before) .args .lsn .0) ((c .before .before .before .before .before .before .before .before .before .before .before .before) .args .count .0) ((c .before .before .before .before .before .before .before .before .before .before .before .before) .args .sid) (shown ((c .before .before .before .before .before .before .before .before .before .before .before .before) .args .set)) (c .before .before .before .before .before .before .saved-commit .ensures .1) (c .before .before .before .before .before .before .saved-commit .result) (c .before .before .before .before .before .before .saved-commit .ensures .0)))
+returns c =
+    let a = (c .before .before .before .before .before .before .before .before .before .before .before .before) .args in
+    left-alone (a .commits .now) (a .checkpoints .now) (a .index .now) (a .presence .now) (a .out .now) _ 19 (no-logs (a .commits .now) (a .checkpoints .now) (a .index .now) (a .presence .now) (a .out .now) (volumeSays (a .v)) (a .lsn .0) (a .count .0) (a .sid) (shown (a .set)) (sym (not-true _ (c .if1 .taken)) ∙ c .before .write-room .ensures ∙ same-room (a .commits .now) (a .checkpoints .now) (a .index .now) (a .presence .now) (a .out .now) (volumeSays (a .v)) (a .lsn .0) (a .count .0) (a .sid) (shown (a .set)) (c .before .before .before .before .before .before .saved-commit .ensures .1) (c .before .before .before .before .before .before .saved-commit .result) (c .before .before .before .before .before .before .saved-commit .ensures .0)))
 
 room-for-pages-requires : tie.Need-room-for-pages-requires
 room-for-pages-requires c κs = search needs
@@ -47,22 +51,30 @@ same-length-7 : tie.Need-same-length-7
 same-length-7 c = search needs
 
 returns-2 : tie.Need-returns-2
-returns-2 c = left-alone ((c .before .before .before .before .before .before .before .before .before .before .before .before .before .before .before) .args .commits .now) ((c .before .before .before .before .before .before .before .before .before .before .before .before .before .before .before) .args .checkpoints .now) ((c .before .before .before .before .before .before .before .before .before .before .before .before .before .before .before) .args .index .now) ((c .before .before .before .before .before .before .before .before .before .before .before .before .before .before .before) .args .presence .now) ((c .before .before .before .before .before .before .before .before .before .before .before .before .before .before .before) .args .out .now) _ 19 (no-pages ((c .before .before .before .before .before .before .before .before .before .before .before .before .before .before .before) .args .commits .now) ((c .before .before .before .before .before .before .before .before .before .before .before .before .before .before .before) .args .checkpoints .now) ((c .before .before .before .before .before .before .before .before .before .before .before .before .before .before .before) .args .index .now) ((c .before .before .before .before .before .before .before .before .before .before .before .before .before .before .before) .args .presence .now) ((c .before .before .before .before .before .before .before .before .before .before .before .before .before .before .before) .args .out .now) (volumeSays ((c .before .before .before .before .before .before .before .before .before .before .before .before .before .before .before) .args .v)) ((c .before .before .before .before .before .before .before .before .before .before .before .before .before .before .before) .args .lsn .0) ((c .before .before .before .before .before .before .before .before .before .before .before .before .before .before .before) .args .count .0) ((c .before .before .before .before .before .before .before .before .before .before .before .before .before .before .before) .args .sid) (shown ((c .before .before .before .before .before .before .before .before .before .before .before .before .before .before .before) .args .set)) (sym (not-false _ (c .before .before .before .if1 .left)) ∙ c .before .before .before .before .write-room .ensures ∙ same-room ((c .before .before .before .before .before .before .before .before .before .before .before .before .before .before .before) .args .commits .now) ((c .before .before .before .before .before .before .before .before .before .before .before .before .before .before .before) .args .checkpoints .now) ((c .before .before .before .before .before .before .before .before .before .before .before .before .before .before .before) .args .index .now) ((c .before .before .before .before .before .before .before .before .before .before .before .before .before .before .before) .args .presence .now) ((c .before .before .before .before .before .before .before .before .before .before .before .before .before .before .before) .args .out .now) (volumeSays ((c .before .before .before .before .before .before .before .before .before .before .before .before .before .before .before) .args .v)) ((c .before .before .before .before .before .before .before .before .before .before .before .before .before .before .before) .args .lsn .0) ((c .before .before .before .before .before .before .before .before .before .before .before .before .before .before .before) .args .count .0) ((c .before .before .before .before .before .before .before .before .before .before .before .before .before .before .before) .args .sid) (shown ((c .before .before .before .before .before .before .before .before .before .before .before .before .before .before .before) .args .set)) (c .before .before .before .before .before .before .before .before .before .saved-commit .ensures .1) (c .before .before .before .before .before .before .before .before .before .saved-commit .result) (c .before .before .before .before .before .before .before .before .before .saved-commit .ensures .0)) (sym (not-true _ (c .if2 .taken)) ∙ c .before .room-for-pages .ensures))
+returns-2 c =
+    let a = (c .before .before .before .before .before .before .before .before .before .before .before .before .before .before .before) .args in
+    left-alone (a .commits .now) (a .checkpoints .now) (a .index .now) (a .presence .now) (a .out .now) _ 19 (no-pages (a .commits .now) (a .checkpoints .now) (a .index .now) (a .presence .now) (a .out .now) (volumeSays (a .v)) (a .lsn .0) (a .count .0) (a .sid) (shown (a .set)) (sym (not-false _ (c .before .before .before .if1 .left)) ∙ c .before .before .before .before .write-room .ensures ∙ same-room (a .commits .now) (a .checkpoints .now) (a .index .now) (a .presence .now) (a .out .now) (volumeSays (a .v)) (a .lsn .0) (a .count .0) (a .sid) (shown (a .set)) (c .before .before .before .before .before .before .before .before .before .saved-commit .ensures .1) (c .before .before .before .before .before .before .before .before .before .saved-commit .result) (c .before .before .before .before .before .before .before .before .before .saved-commit .ensures .0)) (sym (not-true _ (c .if2 .taken)) ∙ c .before .room-for-pages .ensures))
 
 slice-aggregate-write-stored : tie.Need-slice-aggregate-write-stored
 slice-aggregate-write-stored c = search needs
 
 write-stored-requires : tie.Need-write-stored-requires
-write-stored-requires c κs = (((c .before .before .before .before .before .before .before .before .before .before .before .before .before .before .before .before .before .before .before) .pre .0 .0, (c .before .before .before .before .before .before .before .before .before .before .before .before .before .before .before .before .before .before .before) .pre .0 .1, (c .before .before .before .before .before .before .before .before .before .before .before .before .before .before .before .before .before .before .before) .pre .0 .2), (is-commit ((c .before .before .before .before .before .before .before .before .before .before .before .before .before .before .before .before .before .before .before) .args .commits .now) ((c .before .before .before .before .before .before .before .before .before .before .before .before .before .before .before .before .before .before .before) .args .checkpoints .now) ((c .before .before .before .before .before .before .before .before .before .before .before .before .before .before .before .before .before .before .before) .args .index .now) ((c .before .before .before .before .before .before .before .before .before .before .before .before .before .before .before .before .before .before .before) .args .presence .now) ((c .before .before .before .before .before .before .before .before .before .before .before .before .before .before .before .before .before .before .before) .args .out .now) (volumeSays ((c .before .before .before .before .before .before .before .before .before .before .before .before .before .before .before .before .before .before .before) .args .v)) ((c .before .before .before .before .before .before .before .before .before .before .before .before .before .before .before .before .before .before .before) .args .lsn .0) ((c .before .before .before .before .before .before .before .before .before .before .before .before .before .before .before .before .before .before .before) .args .count .0) ((c .before .before .before .before .before .before .before .before .before .before .before .before .before .before .before .before .before .before .before) .args .sid) (shown ((c .before .before .before .before .before .before .before .before .before .before .before .before .before .before .before .before .before .before .before) .args .set)) (c .before .before .before .before .before .before .before .before .before .before .before .before .before .saved-commit .ensures .1) (c .before .before .before .before .before .before .before .before .before .before .before .before .before .saved-commit .result) (c .before .before .before .before .before .before .before .before .before .before .before .before .before .saved-commit .ensures .0), sym (c .before .before .before .before .before .before .before .before .write-room .ensures) ∙ not-false _ (c .before .before .before .before .before .before .before .if1 .left)))
+write-stored-requires c κs =
+    let a = (c .before .before .before .before .before .before .before .before .before .before .before .before .before .before .before .before .before .before .before) .args in
+    (((c .before .before .before .before .before .before .before .before .before .before .before .before .before .before .before .before .before .before .before) .pre .0 .0, (c .before .before .before .before .before .before .before .before .before .before .before .before .before .before .before .before .before .before .before) .pre .0 .1, (c .before .before .before .before .before .before .before .before .before .before .before .before .before .before .before .before .before .before .before) .pre .0 .2), (is-commit (a .commits .now) (a .checkpoints .now) (a .index .now) (a .presence .now) (a .out .now) (volumeSays (a .v)) (a .lsn .0) (a .count .0) (a .sid) (shown (a .set)) (c .before .before .before .before .before .before .before .before .before .before .before .before .before .saved-commit .ensures .1) (c .before .before .before .before .before .before .before .before .before .before .before .before .before .saved-commit .result) (c .before .before .before .before .before .before .before .before .before .before .before .before .before .saved-commit .ensures .0), sym (c .before .before .before .before .before .before .before .before .write-room .ensures) ∙ not-false _ (c .before .before .before .before .before .before .before .if1 .left)))
 
 put-pages-requires : tie.Need-put-pages-requires
 put-pages-requires c κs = (((c .before .before .before .before .before .before .before .before .before .before .before .before .before .before .before .before .before .before .before .before .before .before .before .before .before .before .before) .pre .0 .3, (c .before .before .before .before .before .before .before .before .before .before .before .before .before .before .before .before .before .before .before .before .before .before .before .before .before .before .before) .pre .1 .0 .2), ((c .before .before .before .before .before .before .before .before .before .before .before .before .before .before .before .before .before .before .before .before .before .before .before .before .before .before .before) .pre .1 .1 .0, sym (c .before .before .before .before .before .before .before .before .before .before .before .before .before .room-for-pages .ensures) ∙ not-false _ (c .before .before .before .before .before .before .before .before .before .before .before .before .if2 .left)))
 
 snapshot-of-requires : tie.Need-snapshot-of-requires
-snapshot-of-requires c κs = still-formed ((c .before .before .before .before .before .before .before .before .before .before .before .before .before .before .before .before .before .before .before .before .before .before .before .before .before .before .before .before .before .before .before .before) .args .commits .now) ((c .before .before .before .before .before .before .before .before .before .before .before .before .before .before .before .before .before .before .before .before .before .before .before .before .before .before .before .before .before .before .before .before) .args .checkpoints .now) ((c .before .before .before .before .before .before .before .before .before .before .before .before .before .before .before .before .before .before .before .before .before .before .before .before .before .before .before .before .before .before .before .before) .args .index .now) ((c .before .before .before .before .before .before .before .before .before .before .before .before .before .before .before .before .before .before .before .before .before .before .before .before .before .before .before .before .before .before .before .before) .args .presence .now) ((c .before .before .before .before .before .before .before .before .before .before .before .before .before .before .before .before .before .before .before .before .before .before .before .before .before .before .before .before .before .before .before .before) .args .out .now) (volumeSays ((c .before .before .before .before .before .before .before .before .before .before .before .before .before .before .before .before .before .before .before .before .before .before .before .before .before .before .before .before .before .before .before .before) .args .v)) ((c .before .before .before .before .before .before .before .before .before .before .before .before .before .before .before .before .before .before .before .before .before .before .before .before .before .before .before .before .before .before .before .before) .args .lsn .0) ((c .before .before .before .before .before .before .before .before .before .before .before .before .before .before .before .before .before .before .before .before .before .before .before .before .before .before .before .before .before .before .before .before) .args .count .0) ((c .before .before .before .before .before .before .before .before .before .before .before .before .before .before .before .before .before .before .before .before .before .before .before .before .before .before .before .before .before .before .before .before) .args .sid) (shown ((c .before .before .before .before .before .before .before .before .before .before .before .before .before .before .before .before .before .before .before .before .before .before .before .before .before .before .before .before .before .before .before .before) .args .set)) (c .before .before .before .before .before .before .before .before .before .before .before .before .before .before .before .before .before .before .before .before .before .before .before .before .before .before .saved-commit .ensures .1) (c .before .before .before .before .before .before .before .before .before .before .before .before .before .before .before .before .before .before .before .before .before .before .before .before .before .before .saved-commit .result) (c .before .before .before .before .before .before .before .before .before .before .before .before .before .before .before .before .before .before .before .before .before .before .before .before .before .before .saved-commit .ensures .0) ((c .before .before .before .before .before .before .before .before .before .before .before .before .before .before .before .before .before .before .before .before .before .before .before .before .before .before .before .before .before .before .before .before) .pre .0 .0) (sym (not-false _ (c .before .before .before .before .before .before .before .before .before .before .before .before .before .before .before .before .before .before .before .before .if1 .left)) ∙ c .before .before .before .before .before .before .before .before .before .before .before .before .before .before .before .before .before .before .before .before .before .write-room .ensures ∙ same-room ((c .before .before .before .before .before .before .before .before .before .before .before .before .before .before .before .before .before .before .before .before .before .before .before .before .before .before .before .before .before .before .before .before) .args .commits .now) ((c .before .before .before .before .before .before .before .before .before .before .before .before .before .before .before .before .before .before .before .before .before .before .before .before .before .before .before .before .before .before .before .before) .args .checkpoints .now) ((c .before .before .before .before .before .before .before .before .before .before .before .before .before .before .before .before .before .before .before .before .before .before .before .before .before .before .before .before .before .before .before .before) .args .index .now) ((c .before .before .before .before .before .before .before .before .before .before .before .before .before .before .before .before .before .before .before .before .before .before .before .before .before .before .before .before .before .before .before .before) .args .presence .now) ((c .before .before .before .before .before .before .before .before .before .before .before .before .before .before .before .before .before .before .before .before .before .before .before .before .before .before .before .before .before .before .before .before) .args .out .now) (volumeSays ((c .before .before .before .before .before .before .before .before .before .before .before .before .before .before .before .before .before .before .before .before .before .before .before .before .before .before .before .before .before .before .before .before) .args .v)) ((c .before .before .before .before .before .before .before .before .before .before .before .before .before .before .before .before .before .before .before .before .before .before .before .before .before .before .before .before .before .before .before .before) .args .lsn .0) ((c .before .before .before .before .before .before .before .before .before .before .before .before .before .before .before .before .before .before .before .before .before .before .before .before .before .before .before .before .before .before .before .before) .args .count .0) ((c .before .before .before .before .before .before .before .before .before .before .before .before .before .before .before .before .before .before .before .before .before .before .before .before .before .before .before .before .before .before .before .before) .args .sid) (shown ((c .before .before .before .before .before .before .before .before .before .before .before .before .before .before .before .before .before .before .before .before .before .before .before .before .before .before .before .before .before .before .before .before) .args .set)) (c .before .before .before .before .before .before .before .before .before .before .before .before .before .before .before .before .before .before .before .before .before .before .before .before .before .before .saved-commit .ensures .1) (c .before .before .before .before .before .before .before .before .before .before .before .before .before .before .before .before .before .before .before .before .before .before .before .before .before .before .saved-commit .result) (c .before .before .before .before .before .before .before .before .before .before .before .before .before .before .before .before .before .before .before .before .before .before .before .before .before .before .saved-commit .ensures .0)) _ (c .before .before .before .before .before .before .before .before .before .before .before .before .write-stored .ensures .0)
+snapshot-of-requires c κs =
+    let a = (c .before .before .before .before .before .before .before .before .before .before .before .before .before .before .before .before .before .before .before .before .before .before .before .before .before .before .before .before .before .before .before .before) .args in
+    still-formed (a .commits .now) (a .checkpoints .now) (a .index .now) (a .presence .now) (a .out .now) (volumeSays (a .v)) (a .lsn .0) (a .count .0) (a .sid) (shown (a .set)) (c .before .before .before .before .before .before .before .before .before .before .before .before .before .before .before .before .before .before .before .before .before .before .before .before .before .before .saved-commit .ensures .1) (c .before .before .before .before .before .before .before .before .before .before .before .before .before .before .before .before .before .before .before .before .before .before .before .before .before .before .saved-commit .result) (c .before .before .before .before .before .before .before .before .before .before .before .before .before .before .before .before .before .before .before .before .before .before .before .before .before .before .saved-commit .ensures .0) ((c .before .before .before .before .before .before .before .before .before .before .before .before .before .before .before .before .before .before .before .before .before .before .before .before .before .before .before .before .before .before .before .before) .pre .0 .0) (sym (not-false _ (c .before .before .before .before .before .before .before .before .before .before .before .before .before .before .before .before .before .before .before .before .if1 .left)) ∙ c .before .before .before .before .before .before .before .before .before .before .before .before .before .before .before .before .before .before .before .before .before .write-room .ensures ∙ same-room (a .commits .now) (a .checkpoints .now) (a .index .now) (a .presence .now) (a .out .now) (volumeSays (a .v)) (a .lsn .0) (a .count .0) (a .sid) (shown (a .set)) (c .before .before .before .before .before .before .before .before .before .before .before .before .before .before .before .before .before .before .before .before .before .before .before .before .before .before .saved-commit .ensures .1) (c .before .before .before .before .before .before .before .before .before .before .before .before .before .before .before .before .before .before .before .before .before .before .before .before .before .before .saved-commit .result) (c .before .before .before .before .before .before .before .before .before .before .before .before .before .before .before .before .before .before .before .before .before .before .before .before .before .before .saved-commit .ensures .0)) _ (c .before .before .before .before .before .before .before .before .before .before .before .before .write-stored .ensures .0)
 
 snapshot-write-requires : tie.Need-snapshot-write-requires
-snapshot-write-requires c κs = (omega (arith, (c .before .before .before .before .before .before .before .before .before .before .before .before .before .before .before .before .before .before .before .before .before .before .before .before .before .before .before .before .before .before .before .before .before) .pre .1 .1 .1), snapshot-formed ((c .before .before .before .before .before .before .before .before .before .before .before .before .before .before .before .before .before .before .before .before .before .before .before .before .before .before .before .before .before .before .before .before .before) .args .commits .now) ((c .before .before .before .before .before .before .before .before .before .before .before .before .before .before .before .before .before .before .before .before .before .before .before .before .before .before .before .before .before .before .before .before .before) .args .checkpoints .now) ((c .before .before .before .before .before .before .before .before .before .before .before .before .before .before .before .before .before .before .before .before .before .before .before .before .before .before .before .before .before .before .before .before .before) .args .index .now) ((c .before .before .before .before .before .before .before .before .before .before .before .before .before .before .before .before .before .before .before .before .before .before .before .before .before .before .before .before .before .before .before .before .before) .args .presence .now) ((c .before .before .before .before .before .before .before .before .before .before .before .before .before .before .before .before .before .before .before .before .before .before .before .before .before .before .before .before .before .before .before .before .before) .args .out .now) (volumeSays ((c .before .before .before .before .before .before .before .before .before .before .before .before .before .before .before .before .before .before .before .before .before .before .before .before .before .before .before .before .before .before .before .before .before) .args .v)) ((c .before .before .before .before .before .before .before .before .before .before .before .before .before .before .before .before .before .before .before .before .before .before .before .before .before .before .before .before .before .before .before .before .before) .args .lsn .0) ((c .before .before .before .before .before .before .before .before .before .before .before .before .before .before .before .before .before .before .before .before .before .before .before .before .before .before .before .before .before .before .before .before .before) .args .count .0) ((c .before .before .before .before .before .before .before .before .before .before .before .before .before .before .before .before .before .before .before .before .before .before .before .before .before .before .before .before .before .before .before .before .before) .args .sid) (shown ((c .before .before .before .before .before .before .before .before .before .before .before .before .before .before .before .before .before .before .before .before .before .before .before .before .before .before .before .before .before .before .before .before .before) .args .set)) (c .before .before .before .before .before .before .before .before .before .before .before .before .before .before .before .before .before .before .before .before .before .before .before .before .before .before .before .saved-commit .ensures .1) (c .before .before .before .before .before .before .before .before .before .before .before .before .before .before .before .before .before .before .before .before .before .before .before .before .before .before .before .saved-commit .result) (c .before .before .before .before .before .before .before .before .before .before .before .before .before .before .before .before .before .before .before .before .before .before .before .before .before .before .before .saved-commit .ensures .0) ((c .before .before .before .before .before .before .before .before .before .before .before .before .before .before .before .before .before .before .before .before .before .before .before .before .before .before .before .before .before .before .before .before .before) .pre .0 .0) (sym (not-false _ (c .before .before .before .before .before .before .before .before .before .before .before .before .before .before .before .before .before .before .before .before .before .if1 .left)) ∙ c .before .before .before .before .before .before .before .before .before .before .before .before .before .before .before .before .before .before .before .before .before .before .write-room .ensures ∙ same-room ((c .before .before .before .before .before .before .before .before .before .before .before .before .before .before .before .before .before .before .before .before .before .before .before .before .before .before .before .before .before .before .before .before .before) .args .commits .now) ((c .before .before .before .before .before .before .before .before .before .before .before .before .before .before .before .before .before .before .before .before .before .before .before .before .before .before .before .before .before .before .before .before .before) .args .checkpoints .now) ((c .before .before .before .before .before .before .before .before .before .before .before .before .before .before .before .before .before .before .before .before .before .before .before .before .before .before .before .before .before .before .before .before .before) .args .index .now) ((c .before .before .before .before .before .before .before .before .before .before .before .before .before .before .before .before .before .before .before .before .before .before .before .before .before .before .before .before .before .before .before .before .before) .args .presence .now) ((c .before .before .before .before .before .before .before .before .before .before .before .before .before .before .before .before .before .before .before .before .before .before .before .before .before .before .before .before .before .before .before .before .before) .args .out .now) (volumeSays ((c .before .before .before .before .before .before .before .before .before .before .before .before .before .before .before .before .before .before .before .before .before .before .before .before .before .before .before .before .before .before .before .before .before) .args .v)) ((c .before .before .before .before .before .before .before .before .before .before .before .before .before .before .before .before .before .before .before .before .before .before .before .before .before .before .before .before .before .before .before .before .before) .args .lsn .0) ((c .before .before .before .before .before .before .before .before .before .before .before .before .before .before .before .before .before .before .before .before .before .before .before .before .before .before .before .before .before .before .before .before .before) .args .count .0) ((c .before .before .before .before .before .before .before .before .before .before .before .before .before .before .before .before .before .before .before .before .before .before .before .before .before .before .before .before .before .before .before .before .before) .args .sid) (shown ((c .before .before .before .before .before .before .before .before .before .before .before .before .before .before .before .before .before .before .before .before .before .before .before .before .before .before .before .before .before .before .before .before .before) .args .set)) (c .before .before .before .before .before .before .before .before .before .before .before .before .before .before .before .before .before .before .before .before .before .before .before .before .before .before .before .saved-commit .ensures .1) (c .before .before .before .before .before .before .before .before .before .before .before .before .before .before .before .before .before .before .before .before .before .before .before .before .before .before .before .saved-commit .result) (c .before .before .before .before .before .before .before .before .before .before .before .before .before .before .before .before .before .before .before .before .before .before .before .before .before .before .before .saved-commit .ensures .0)) _ (c .before .before .before .before .before .before .before .before .before .before .before .before .before .write-stored .ensures .0) (c .snapshot-of .result) (c .snapshot-of .ensures))
+snapshot-write-requires c κs =
+    let a = (c .before .before .before .before .before .before .before .before .before .before .before .before .before .before .before .before .before .before .before .before .before .before .before .before .before .before .before .before .before .before .before .before .before) .args in
+    (omega (arith, (c .before .before .before .before .before .before .before .before .before .before .before .before .before .before .before .before .before .before .before .before .before .before .before .before .before .before .before .before .before .before .before .before .before) .pre .1 .1 .1), snapshot-formed (a .commits .now) (a .checkpoints .now) (a .index .now) (a .presence .now) (a .out .now) (volumeSays (a .v)) (a .lsn .0) (a .count .0) (a .sid) (shown (a .set)) (c .before .before .before .before .before .before .before .before .before .before .before .before .before .before .before .before .before .before .before .before .before .before .before .before .before .before .before .saved-commit .ensures .1) (c .before .before .before .before .before .before .before .before .before .before .before .before .before .before .before .before .before .before .before .before .before .before .before .before .before .before .before .saved-commit .result) (c .before .before .before .before .before .before .before .before .before .before .before .before .before .before .before .before .before .before .before .before .before .before .before .before .before .before .before .saved-commit .ensures .0) ((c .before .before .before .before .before .before .before .before .before .before .before .before .before .before .before .before .before .before .before .before .before .before .before .before .before .before .before .before .before .before .before .before .before) .pre .0 .0) (sym (not-false _ (c .before .before .before .before .before .before .before .before .before .before .before .before .before .before .before .before .before .before .before .before .before .if1 .left)) ∙ c .before .before .before .before .before .before .before .before .before .before .before .before .before .before .before .before .before .before .before .before .before .before .write-room .ensures ∙ same-room (a .commits .now) (a .checkpoints .now) (a .index .now) (a .presence .now) (a .out .now) (volumeSays (a .v)) (a .lsn .0) (a .count .0) (a .sid) (shown (a .set)) (c .before .before .before .before .before .before .before .before .before .before .before .before .before .before .before .before .before .before .before .before .before .before .before .before .before .before .before .saved-commit .ensures .1) (c .before .before .before .before .before .before .before .before .before .before .before .before .before .before .before .before .before .before .before .before .before .before .before .before .before .before .before .saved-commit .result) (c .before .before .before .before .before .before .before .before .before .before .before .before .before .before .before .before .before .before .before .before .before .before .before .before .before .before .before .saved-commit .ensures .0)) _ (c .before .before .before .before .before .before .before .before .before .before .before .before .before .write-stored .ensures .0) (c .snapshot-of .result) (c .snapshot-of .ensures))
 
 same-length-8 : tie.Need-same-length-8
 same-length-8 c = search needs
@@ -80,7 +92,9 @@ same-length-12 : tie.Need-same-length-12
 same-length-12 c = search needs
 
 returns-3 : tie.Need-returns-3
-returns-3 c = leaves ((c .before .before .before .before .before .before .before .before .before .before .before .before .before .before .before .before .before .before .before .before .before .before .before .before .before .before .before .before .before .before .before .before .before .before .before .before) .args .commits .now) ((c .before .before .before .before .before .before .before .before .before .before .before .before .before .before .before .before .before .before .before .before .before .before .before .before .before .before .before .before .before .before .before .before .before .before .before .before) .args .checkpoints .now) ((c .before .before .before .before .before .before .before .before .before .before .before .before .before .before .before .before .before .before .before .before .before .before .before .before .before .before .before .before .before .before .before .before .before .before .before .before) .args .index .now) ((c .before .before .before .before .before .before .before .before .before .before .before .before .before .before .before .before .before .before .before .before .before .before .before .before .before .before .before .before .before .before .before .before .before .before .before .before) .args .presence .now) ((c .before .before .before .before .before .before .before .before .before .before .before .before .before .before .before .before .before .before .before .before .before .before .before .before .before .before .before .before .before .before .before .before .before .before .before .before) .args .out .now) (volumeSays ((c .before .before .before .before .before .before .before .before .before .before .before .before .before .before .before .before .before .before .before .before .before .before .before .before .before .before .before .before .before .before .before .before .before .before .before .before) .args .v)) ((c .before .before .before .before .before .before .before .before .before .before .before .before .before .before .before .before .before .before .before .before .before .before .before .before .before .before .before .before .before .before .before .before .before .before .before .before) .args .lsn .0) ((c .before .before .before .before .before .before .before .before .before .before .before .before .before .before .before .before .before .before .before .before .before .before .before .before .before .before .before .before .before .before .before .before .before .before .before .before) .args .count .0) ((c .before .before .before .before .before .before .before .before .before .before .before .before .before .before .before .before .before .before .before .before .before .before .before .before .before .before .before .before .before .before .before .before .before .before .before .before) .args .sid) (shown ((c .before .before .before .before .before .before .before .before .before .before .before .before .before .before .before .before .before .before .before .before .before .before .before .before .before .before .before .before .before .before .before .before .before .before .before .before) .args .set)) (c .before .before .before .before .before .before .before .before .before .before .before .before .before .before .before .before .before .before .before .before .before .before .before .before .before .before .before .before .before .before .saved-commit .ensures .1) (c .before .before .before .before .before .before .before .before .before .before .before .before .before .before .before .before .before .before .before .before .before .before .before .before .before .before .before .before .before .before .saved-commit .result) (c .before .before .before .before .before .before .before .before .before .before .before .before .before .before .before .before .before .before .before .before .before .before .before .before .before .before .before .before .before .before .saved-commit .ensures .0) ((c .before .before .before .before .before .before .before .before .before .before .before .before .before .before .before .before .before .before .before .before .before .before .before .before .before .before .before .before .before .before .before .before .before .before .before .before) .pre .0 .0) (sym (not-false _ (c .before .before .before .before .before .before .before .before .before .before .before .before .before .before .before .before .before .before .before .before .before .before .before .before .if1 .left)) ∙ c .before .before .before .before .before .before .before .before .before .before .before .before .before .before .before .before .before .before .before .before .before .before .before .before .before .write-room .ensures ∙ same-room ((c .before .before .before .before .before .before .before .before .before .before .before .before .before .before .before .before .before .before .before .before .before .before .before .before .before .before .before .before .before .before .before .before .before .before .before .before) .args .commits .now) ((c .before .before .before .before .before .before .before .before .before .before .before .before .before .before .before .before .before .before .before .before .before .before .before .before .before .before .before .before .before .before .before .before .before .before .before .before) .args .checkpoints .now) ((c .before .before .before .before .before .before .before .before .before .before .before .before .before .before .before .before .before .before .before .before .before .before .before .before .before .before .before .before .before .before .before .before .before .before .before .before) .args .index .now) ((c .before .before .before .before .before .before .before .before .before .before .before .before .before .before .before .before .before .before .before .before .before .before .before .before .before .before .before .before .before .before .before .before .before .before .before .before) .args .presence .now) ((c .before .before .before .before .before .before .before .before .before .before .before .before .before .before .before .before .before .before .before .before .before .before .before .before .before .before .before .before .before .before .before .before .before .before .before .before) .args .out .now) (volumeSays ((c .before .before .before .before .before .before .before .before .before .before .before .before .before .before .before .before .before .before .before .before .before .before .before .before .before .before .before .before .before .before .before .before .before .before .before .before) .args .v)) ((c .before .before .before .before .before .before .before .before .before .before .before .before .before .before .before .before .before .before .before .before .before .before .before .before .before .before .before .before .before .before .before .before .before .before .before .before) .args .lsn .0) ((c .before .before .before .before .before .before .before .before .before .before .before .before .before .before .before .before .before .before .before .before .before .before .before .before .before .before .before .before .before .before .before .before .before .before .before .before) .args .count .0) ((c .before .before .before .before .before .before .before .before .before .before .before .before .before .before .before .before .before .before .before .before .before .before .before .before .before .before .before .before .before .before .before .before .before .before .before .before) .args .sid) (shown ((c .before .before .before .before .before .before .before .before .before .before .before .before .before .before .before .before .before .before .before .before .before .before .before .before .before .before .before .before .before .before .before .before .before .before .before .before) .args .set)) (c .before .before .before .before .before .before .before .before .before .before .before .before .before .before .before .before .before .before .before .before .before .before .before .before .before .before .before .before .before .before .saved-commit .ensures .1) (c .before .before .before .before .before .before .before .before .before .before .before .before .before .before .before .before .before .before .before .before .before .before .before .before .before .before .before .before .before .before .saved-commit .result) (c .before .before .before .before .before .before .before .before .before .before .before .before .before .before .before .before .before .before .before .before .before .before .before .before .before .before .before .before .before .before .saved-commit .ensures .0)) _ (c .before .before .before .before .before .before .before .before .before .before .before .before .before .before .before .before .write-stored .ensures .0) (c .before .before .before .snapshot-of .result) (c .before .before .before .snapshot-of .ensures) _ _ _ _ ((c .before .before .before .before .before .before .before .before .before .before .before .before .before .before .before .before .before .before .before .before .before .before .before .before .before .before .before .before .before .before .before .before .before .before .before .before) .pre .1 .1 .1) (sym (not-false _ (c .before .before .before .before .before .before .before .before .before .before .before .before .before .before .before .before .before .before .before .before .before .if2 .left)) ∙ c .before .before .before .before .before .before .before .before .before .before .before .before .before .before .before .before .before .before .before .before .before .before .room-for-pages .ensures) (c .before .before .before .before .before .before .before .before .before .before .before .before .before .before .before .before .write-stored .ensures .1 .0) (c .before .before .before .before .before .before .before .before .before .before .before .before .before .before .before .before .write-stored .ensures .1 .1) (c .before .before .before .before .before .before .before .before .put-pages .ensures) (c .before .before .snapshot-write .ensures .0) (c .before .before .snapshot-write .ensures .1)
+returns-3 c =
+    let a = (c .before .before .before .before .before .before .before .before .before .before .before .before .before .before .before .before .before .before .before .before .before .before .before .before .before .before .before .before .before .before .before .before .before .before .before .before) .args in
+    leaves (a .commits .now) (a .checkpoints .now) (a .index .now) (a .presence .now) (a .out .now) (volumeSays (a .v)) (a .lsn .0) (a .count .0) (a .sid) (shown (a .set)) (c .before .before .before .before .before .before .before .before .before .before .before .before .before .before .before .before .before .before .before .before .before .before .before .before .before .before .before .before .before .before .saved-commit .ensures .1) (c .before .before .before .before .before .before .before .before .before .before .before .before .before .before .before .before .before .before .before .before .before .before .before .before .before .before .before .before .before .before .saved-commit .result) (c .before .before .before .before .before .before .before .before .before .before .before .before .before .before .before .before .before .before .before .before .before .before .before .before .before .before .before .before .before .before .saved-commit .ensures .0) ((c .before .before .before .before .before .before .before .before .before .before .before .before .before .before .before .before .before .before .before .before .before .before .before .before .before .before .before .before .before .before .before .before .before .before .before .before) .pre .0 .0) (sym (not-false _ (c .before .before .before .before .before .before .before .before .before .before .before .before .before .before .before .before .before .before .before .before .before .before .before .before .if1 .left)) ∙ c .before .before .before .before .before .before .before .before .before .before .before .before .before .before .before .before .before .before .before .before .before .before .before .before .before .write-room .ensures ∙ same-room (a .commits .now) (a .checkpoints .now) (a .index .now) (a .presence .now) (a .out .now) (volumeSays (a .v)) (a .lsn .0) (a .count .0) (a .sid) (shown (a .set)) (c .before .before .before .before .before .before .before .before .before .before .before .before .before .before .before .before .before .before .before .before .before .before .before .before .before .before .before .before .before .before .saved-commit .ensures .1) (c .before .before .before .before .before .before .before .before .before .before .before .before .before .before .before .before .before .before .before .before .before .before .before .before .before .before .before .before .before .before .saved-commit .result) (c .before .before .before .before .before .before .before .before .before .before .before .before .before .before .before .before .before .before .before .before .before .before .before .before .before .before .before .before .before .before .saved-commit .ensures .0)) _ (c .before .before .before .before .before .before .before .before .before .before .before .before .before .before .before .before .write-stored .ensures .0) (c .before .before .before .snapshot-of .result) (c .before .before .before .snapshot-of .ensures) _ _ _ _ ((c .before .before .before .before .before .before .before .before .before .before .before .before .before .before .before .before .before .before .before .before .before .before .before .before .before .before .before .before .before .before .before .before .before .before .before .before) .pre .1 .1 .1) (sym (not-false _ (c .before .before .before .before .before .before .before .before .before .before .before .before .before .before .before .before .before .before .before .before .before .if2 .left)) ∙ c .before .before .before .before .before .before .before .before .before .before .before .before .before .before .before .before .before .before .before .before .before .before .room-for-pages .ensures) (c .before .before .before .before .before .before .before .before .before .before .before .before .before .before .before .before .write-stored .ensures .1 .0) (c .before .before .before .before .before .before .before .before .before .before .before .before .before .before .before .before .write-stored .ensures .1 .1) (c .before .before .before .before .before .before .before .before .put-pages .ensures) (c .before .before .snapshot-write .ensures .0) (c .before .before .snapshot-write .ensures .1)
 
 pub save-stored-spec : {M : Type 1} → statement M
 save-stored-spec =

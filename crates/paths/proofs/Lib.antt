@@ -1,0 +1,2 @@
+pub mod PathLaws
+pub mod LeftLaws

@@ -1,0 +1,93 @@
+-- The invariant: the ranges kept so far are those of the first i that do not name the log. The measure is how many are left.
+use borrow.Author.Needs.{needs}
+use borrow.Author.Tests.{not-true, not-false}
+use Prim.Native.Nat.{ℕ, _+_, _-_, _≤_, _<_}
+use mathlib.Core.Path.{_≡_, refl, sym, ap, _∙_}
+use mathlib.Core.Logic.{⊎-elim}
+use mathlib.Core.List.{map}
+use native.Mathlib.Omega.{arith}
+use lib.ListN.{length, take, length-set}
+use Rattle.rules.specs.Lists.{those}
+use Rattle.volume.specs.Snapshots.{rangeSays}
+use Rattle.commitbytes.proofs.CommitLaws.{same-id}
+use Rattle.paths.specs.Left.{otherLog}
+use Rattle.paths.proofs.LeftLaws.{other-kept, own-left, none-kept}
+use Rattle.paths.proofs.without.Statement.{statement}
+use Rattle.paths.proofs.without.Tie as tie
+
+abbrev Inv-loop : tie.InvT-loop
+Inv-loop len log path kept₀ n₀ i₀ kept n i =
+    (n ≤ i) × (i ≤ len) × (length kept ≡ 8) × (map rangeSays (take n kept) ≡ those (otherLog log) (map rangeSays (take i path)))
+
+abbrev μ-loop : tie.MeasureT-loop
+μ-loop len log path kept₀ n₀ i₀ kept n i = len - i
+
+loop-holds : tie.Need-loop-holds Inv-loop μ-loop
+loop-holds c = (omega arith, omega arith, search needs, none-kept ((c) .args .log) ((c) .args .t1))
+
+mul-range : tie.Need-mul-range Inv-loop μ-loop
+mul-range c = search needs
+
+array-copy-out-range : tie.Need-array-copy-out-range Inv-loop μ-loop
+array-copy-out-range c = search needs
+
+same-requires : tie.Need-same-requires Inv-loop μ-loop
+same-requires c κs = search needs
+
+mul-kept : tie.Need-mul-kept Inv-loop μ-loop
+mul-kept c = search needs
+
+array-set-from-kept : tie.Need-array-set-from-kept Inv-loop μ-loop
+array-set-from-kept c = omega arith
+
+add-n : tie.Need-add-n Inv-loop μ-loop
+add-n c = omega arith
+
+add-i : tie.Need-add-i Inv-loop μ-loop
+add-i c = omega arith
+
+loop-less : tie.Need-loop-less Inv-loop μ-loop
+loop-less c = omega arith
+
+loop-again : tie.Need-loop-again Inv-loop μ-loop
+loop-again c =
+    let l : length ((c .before .before .before .before .before .before) .args .t1) ≡ 8 = search needs in
+    let h : (c .before .before .before .before .before .loop) .i < length ((c .before .before .before .before .before .before) .args .t1) = omega arith in
+    let k : (c .before .before .before .before .before .loop) .n < length ((c .before .before .before .before .before .loop) .kept) = omega (arith, (c .before .before .before .before .before .loop) .inv) in
+    ⊎-elim
+    (λ q. rw (q .1, q .2) (
+      omega (arith, (c .before .before .before .before .before .loop) .inv),
+      omega arith,
+      length-set ((c .before .before .before .before .before .loop) .kept) ((c .before .before .before .before .before .loop) .n) _ ∙ (c .before .before .before .before .before .loop) .inv .2,
+      other-kept ((c .before .before .before .before .before .before) .args .log) ((c .before .before .before .before .before .before) .args .t1) ((c .before .before .before .before .before .loop) .kept) ((c .before .before .before .before .before .loop) .i) ((c .before .before .before .before .before .loop) .n) _ h ((c .before .before .before .before .before .loop) .inv .3) k (sym (same-id _ _) ∙ sym (c .before .same .ensures) ∙ not-true _ (q .0 .taken)),
+    ))
+    (λ q. rw (q .1, q .2) (
+      omega (arith, (c .before .before .before .before .before .loop) .inv),
+      omega arith,
+      (c .before .before .before .before .before .loop) .inv .2,
+      own-left ((c .before .before .before .before .before .before) .args .log) ((c .before .before .before .before .before .before) .args .t1) ((c .before .before .before .before .before .loop) .kept) ((c .before .before .before .before .before .loop) .i) ((c .before .before .before .before .before .loop) .n) _ h ((c .before .before .before .before .before .loop) .inv .3) (sym (same-id _ _) ∙ sym (c .before .same .ensures) ∙ not-false _ (q .0 .left)),
+    ))
+    (c .if1 .came)
+
+returns : tie.Need-returns Inv-loop μ-loop
+returns c =
+    let e : c .before .loop .i ≡ (c .before .before) .args .len = omega arith in
+    ((omega arith, omega arith), c .before .loop .inv .3 ∙ ap (λ (n : ℕ). those (otherLog ((c .before .before) .args .log)) (map rangeSays (take n ((c .before .before) .args .t1)))) e)
+
+pub without-spec : {M : Type 1} → statement M
+without-spec =
+    tie.close
+    (tie.spec
+    Inv-loop
+    μ-loop
+    loop-holds
+    mul-range
+    array-copy-out-range
+    same-requires
+    mul-kept
+    array-set-from-kept
+    add-n
+    add-i
+    loop-less
+    loop-again
+    returns)
