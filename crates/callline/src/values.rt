@@ -17,7 +17,7 @@ pub enum Number {
 // The first and the last page of a range, or a text that is not in the form.
 pub enum Pages {
     Malformed,
-    From(u64, u64),
+    From(u32, u32),
 }
 
 // The value of a digit of lower case hex; 16 for any other byte.
@@ -109,7 +109,7 @@ pub fn range(s: &[u8]) -> Pages
         return Pages::Malformed;
     };
     if mid == s.len() {
-        return Pages::From(a, a);
+        return Pages::From(a as u32, a as u32);
     }
     let from = mid + 1;
     let to = texts::piece_end(s, from, 45);
@@ -119,7 +119,7 @@ pub fn range(s: &[u8]) -> Pages
     let Number::Is(b) = decimal(&s[from..to], LAST_U32) else {
         return Pages::Malformed;
     };
-    Pages::From(a, b)
+    Pages::From(a as u32, b as u32)
 }
 
 // Whether a text is `-` or rising ranges from 1 up.
@@ -129,7 +129,7 @@ pub fn is_pages(s: &[u8]) -> bool
     if texts::is_text(s, b"-") {
         return true;
     }
-    let mut low: u64 = 0;
+    let mut low: u32 = 0;
     let mut at: usize = 0;
     loop {
         let end = texts::piece_end(s, at, 44);

@@ -171,18 +171,19 @@ fn save_stored(
     checkpoints: &mut [u8],
     index: &mut [u8],
     presence: &mut [u8],
-    v: Volume,
-    lsn: Lsn,
+    p: Plan,
     count: PageCount,
     sid: SegmentId,
     set: PageSet,
     out: &mut [u8],
 ) -> u32
     requires { ⌜ (commitsOk (now commits) ≡ true) × (checkpointsOk (now checkpoints) ≡ true) × (indexOk (now index) ≡ true) × (presenceOk (now presence) ≡ true) ⌝ }
-    requires { ⌜ (volumeForm (volumeSays v) ≡ true) × (lsnForm (lsn .0) ≡ true) × (normal set ≡ true) ⌝ }
+    requires { ⌜ (volumeForm (volumeSays (p .volume)) ≡ true) × (lsnForm (p .lsn .0) ≡ true) × (normal set ≡ true) ⌝ }
     requires { ⌜ (any (ofSegment sid) (presenceIn (now presence) .rows) ≡ false) × (length (now out) ≡ 262) ⌝ }
-    ensures { λ r. ⌜ Leaves (now (commits .entry)) (now (checkpoints .entry)) (now (index .entry)) (now (presence .entry)) (now (out .entry)) (stored (logsIn (now (commits .entry)) (now (checkpoints .entry)) (now (index .entry))) (presenceIn (now (presence .entry))) (volumeSays v) (lsn .0) (count .0) sid (shown set)) r (now (commits .exit)) (now (checkpoints .exit)) (now (index .exit)) (now (presence .exit)) (now (out .exit)) ⌝ }
+    ensures { λ r. ⌜ Leaves (now (commits .entry)) (now (checkpoints .entry)) (now (index .entry)) (now (presence .entry)) (now (out .entry)) (stored (logsIn (now (commits .entry)) (now (checkpoints .entry)) (now (index .entry))) (presenceIn (now (presence .entry))) (volumeSays (p .volume)) (p .lsn .0) (count .0) sid (shown set)) r (now (commits .exit)) (now (checkpoints .exit)) (now (index .exit)) (now (presence .exit)) (now (out .exit)) ⌝ }
 {
+    let v = p.volume;
+    let lsn = p.lsn;
     let c = saved_commit(v, lsn, count, sid, set);
     if !write_room(commits, checkpoints, index, &c) {
         return 19;
@@ -226,16 +227,13 @@ pub fn save(
     if p.code != 0 {
         return p.code;
     }
-    let v = p.volume;
-    let lsn = p.lsn;
     let set = set_read(pages, 0);
     save_stored(
         commits,
         checkpoints,
         index,
         presence,
-        v,
-        lsn,
+        p,
         count,
         sid,
         set,

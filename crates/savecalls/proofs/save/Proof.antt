@@ -84,15 +84,15 @@ returns-3 c =
 
 set-read-requires : tie.Need-set-read-requires
 set-read-requires c κs =
-    let a = (c .before .before .before .before .before .before .before .before .before .before .before .before .before .before .before .before .before .before .before .before .before .before .before .before) .args in
-    omega (arith, set-long (a .pages .now) (good (a .snapshot .now) (a .pages .now) _ (sym (c .before .before .before .before .before .before .before .before .if2 .left) ∙ c .before .before .before .before .before .before .before .before .before .arguments-number .ensures) .set))
+    let a = (c .before .before .before .before .before .before .before .before .before .before .before .before .before .before .before .before .before .before .before .before .before .before) .args in
+    omega (arith, set-long (a .pages .now) (good (a .snapshot .now) (a .pages .now) _ (sym (c .before .before .before .before .before .before .if2 .left) ∙ c .before .before .before .before .before .before .before .arguments-number .ensures) .set))
 
 save-stored-requires : tie.Need-save-stored-requires
 save-stored-requires c κs =
-    let a = (c .before .before .before .before .before .before .before .before .before .before .before .before .before .before .before .before .before .before .before .before .before .before .before .before .before .before .before .before .before .before) .args in
-    let f = formed (a .volumes .now) (a .commits .now) (a .checkpoints .now) (a .index .now) (a .presence .now) (sym (sym (not-false _ (c .before .before .before .before .before .before .before .before .before .before .before .before .before .before .before .before .if1 .left)) ∙ c .before .before .before .before .before .before .before .before .before .before .before .before .before .before .before .before .before .tables-formed .ensures)) in
-    let o = good (a .snapshot .now) (a .pages .now) _ (sym (c .before .before .before .before .before .before .before .before .before .before .before .before .before .before .if2 .left) ∙ c .before .before .before .before .before .before .before .before .before .before .before .before .before .before .before .arguments-number .ensures) in
-    let g = goes (volumesIn (a .volumes .now)) (commitsIn (a .commits .now)) (presenceIn (a .presence .now)) (a .vid) _ (a .sid) (formed-rules volumes (a .volumes .now) (f .volumes)) _ _ (planned-is (volumesIn (a .volumes .now)) (commitsIn (a .commits .now)) (presenceIn (a .presence .now)) (a .vid) (a .sid) (a .snapshot .now) (c .before .before .before .before .before .before .before .before .before .before .before .snapshot-arg .result) (c .before .before .before .before .before .before .before .before .before .before .before .snapshot-arg .ensures) (c .before .before .before .before .before .before .before .before .before .before .save-plan .result) (c .before .before .before .before .before .before .before .before .before .before .save-plan .ensures) ∙ says-yes (c .before .before .before .before .before .before .before .before .before .before .save-plan .result) (c .before .before .before .before .before .before .before .before .if3 .left)) in
+    let a = (c .before .before .before .before .before .before .before .before .before .before .before .before .before .before .before .before .before .before .before .before .before .before .before .before .before .before .before .before) .args in
+    let f = formed (a .volumes .now) (a .commits .now) (a .checkpoints .now) (a .index .now) (a .presence .now) (sym (sym (not-false _ (c .before .before .before .before .before .before .before .before .before .before .before .before .before .before .if1 .left)) ∙ c .before .before .before .before .before .before .before .before .before .before .before .before .before .before .before .tables-formed .ensures)) in
+    let o = good (a .snapshot .now) (a .pages .now) _ (sym (c .before .before .before .before .before .before .before .before .before .before .before .before .if2 .left) ∙ c .before .before .before .before .before .before .before .before .before .before .before .before .before .arguments-number .ensures) in
+    let g = goes (volumesIn (a .volumes .now)) (commitsIn (a .commits .now)) (presenceIn (a .presence .now)) (a .vid) _ (a .sid) (formed-rules volumes (a .volumes .now) (f .volumes)) _ _ (planned-is (volumesIn (a .volumes .now)) (commitsIn (a .commits .now)) (presenceIn (a .presence .now)) (a .vid) (a .sid) (a .snapshot .now) (c .before .before .before .before .before .before .before .before .before .snapshot-arg .result) (c .before .before .before .before .before .before .before .before .before .snapshot-arg .ensures) (c .before .before .before .before .before .before .before .before .save-plan .result) (c .before .before .before .before .before .before .before .before .save-plan .ensures) ∙ says-yes (c .before .before .before .before .before .before .before .before .save-plan .result) (c .before .before .before .before .before .before .if3 .left)) in
     ((f .commits, f .checkpoints, f .index, f .presence), ((g .form, g .above, set-laid (a .pages .now) (o .set) (c .before .before .before .before .before .set-read .result) (c .before .before .before .before .before .set-read .ensures) .0), (g .free, o .place)))
 
 same-length-13 : tie.Need-same-length-13
@@ -112,12 +112,12 @@ same-length-17 c = search needs
 
 returns-4 : tie.Need-returns-4
 returns-4 c =
-    let a = (c .before .before .before .before .before .before .before .before .before .before .before .before .before .before .before .before .before .before .before .before .before .before .before .before .before .before .before .before .before .before .before .before .before .before .before .before .before .before .before .before .before) .args in
-    let o = good (a .snapshot .now) (a .pages .now) _ (sym (c .before .before .before .before .before .before .before .before .before .before .before .before .before .before .before .before .before .before .before .before .before .before .before .before .before .if2 .left) ∙ c .before .before .before .before .before .before .before .before .before .before .before .before .before .before .before .before .before .before .before .before .before .before .before .before .before .before .arguments-number .ensures) in
+    let a = (c .before .before .before .before .before .before .before .before .before .before .before .before .before .before .before .before .before .before .before .before .before .before .before .before .before .before .before .before .before .before .before .before .before .before .before .before .before .before .before) .args in
+    let o = good (a .snapshot .now) (a .pages .now) _ (sym (c .before .before .before .before .before .before .before .before .before .before .before .before .before .before .before .before .before .before .before .before .before .before .before .if2 .left) ∙ c .before .before .before .before .before .before .before .before .before .before .before .before .before .before .before .before .before .before .before .before .before .before .before .before .arguments-number .ensures) in
     leaves-same (a .commits .now) (a .checkpoints .now) (a .index .now) (a .presence .now) (a .out .now) _ _
-    (ap (λ (ws : Pages). stored (logsIn (a .commits .now) (a .checkpoints .now) (a .index .now)) (presenceIn (a .presence .now)) (volumeSays (c .before .before .before .before .before .before .before .before .before .before .before .before .before .before .before .before .before .before .before .before .before .save-plan .result .volume)) (c .before .before .before .before .before .before .before .before .before .before .before .before .before .before .before .before .before .before .before .before .before .save-plan .result .lsn .0) (a .count .0) (a .sid) ws)
+    (ap (λ (ws : Pages). stored (logsIn (a .commits .now) (a .checkpoints .now) (a .index .now)) (presenceIn (a .presence .now)) (volumeSays (c .before .before .before .before .before .before .before .before .before .before .before .before .before .before .before .before .before .before .before .save-plan .result .volume)) (c .before .before .before .before .before .before .before .before .before .before .before .before .before .before .before .before .before .before .before .save-plan .result .lsn .0) (a .count .0) (a .sid) ws)
     (set-laid (a .pages .now) (o .set) (c .before .before .before .before .before .before .before .before .before .before .before .before .before .before .before .before .set-read .result) (c .before .before .before .before .before .before .before .before .before .before .before .before .before .before .before .before .set-read .ensures) .1)
-    ∙ by-store (a .volumes .now) (a .commits .now) (a .checkpoints .now) (a .index .now) (a .presence .now) (a .vid) (a .snapshot .now) (a .count .0) (a .sid) (a .pages .now) (a .out .now) (sym (not-false _ (c .before .before .before .before .before .before .before .before .before .before .before .before .before .before .before .before .before .before .before .before .before .before .before .before .before .before .before .if1 .left)) ∙ c .before .before .before .before .before .before .before .before .before .before .before .before .before .before .before .before .before .before .before .before .before .before .before .before .before .before .before .before .tables-formed .ensures) (sym (c .before .before .before .before .before .before .before .before .before .before .before .before .before .before .before .before .before .before .before .before .before .before .before .before .before .if2 .left) ∙ c .before .before .before .before .before .before .before .before .before .before .before .before .before .before .before .before .before .before .before .before .before .before .before .before .before .before .arguments-number .ensures) (volumeSays (c .before .before .before .before .before .before .before .before .before .before .before .before .before .before .before .before .before .before .before .before .before .save-plan .result .volume)) (c .before .before .before .before .before .before .before .before .before .before .before .before .before .before .before .before .before .before .before .before .before .save-plan .result .lsn .0) (planned-is (volumesIn (a .volumes .now)) (commitsIn (a .commits .now)) (presenceIn (a .presence .now)) (a .vid) (a .sid) (a .snapshot .now) (c .before .before .before .before .before .before .before .before .before .before .before .before .before .before .before .before .before .before .before .before .before .before .snapshot-arg .result) (c .before .before .before .before .before .before .before .before .before .before .before .before .before .before .before .before .before .before .before .before .before .before .snapshot-arg .ensures) (c .before .before .before .before .before .before .before .before .before .before .before .before .before .before .before .before .before .before .before .before .before .save-plan .result) (c .before .before .before .before .before .before .before .before .before .before .before .before .before .before .before .before .before .before .before .before .before .save-plan .ensures) ∙ says-yes (c .before .before .before .before .before .before .before .before .before .before .before .before .before .before .before .before .before .before .before .before .before .save-plan .result) (c .before .before .before .before .before .before .before .before .before .before .before .before .before .before .before .before .before .before .before .if3 .left)))
+    ∙ by-store (a .volumes .now) (a .commits .now) (a .checkpoints .now) (a .index .now) (a .presence .now) (a .vid) (a .snapshot .now) (a .count .0) (a .sid) (a .pages .now) (a .out .now) (sym (not-false _ (c .before .before .before .before .before .before .before .before .before .before .before .before .before .before .before .before .before .before .before .before .before .before .before .before .before .if1 .left)) ∙ c .before .before .before .before .before .before .before .before .before .before .before .before .before .before .before .before .before .before .before .before .before .before .before .before .before .before .tables-formed .ensures) (sym (c .before .before .before .before .before .before .before .before .before .before .before .before .before .before .before .before .before .before .before .before .before .before .before .if2 .left) ∙ c .before .before .before .before .before .before .before .before .before .before .before .before .before .before .before .before .before .before .before .before .before .before .before .before .arguments-number .ensures) (volumeSays (c .before .before .before .before .before .before .before .before .before .before .before .before .before .before .before .before .before .before .before .save-plan .result .volume)) (c .before .before .before .before .before .before .before .before .before .before .before .before .before .before .before .before .before .before .before .save-plan .result .lsn .0) (planned-is (volumesIn (a .volumes .now)) (commitsIn (a .commits .now)) (presenceIn (a .presence .now)) (a .vid) (a .sid) (a .snapshot .now) (c .before .before .before .before .before .before .before .before .before .before .before .before .before .before .before .before .before .before .before .before .snapshot-arg .result) (c .before .before .before .before .before .before .before .before .before .before .before .before .before .before .before .before .before .before .before .before .snapshot-arg .ensures) (c .before .before .before .before .before .before .before .before .before .before .before .before .before .before .before .before .before .before .before .save-plan .result) (c .before .before .before .before .before .before .before .before .before .before .before .before .before .before .before .before .before .before .before .save-plan .ensures) ∙ says-yes (c .before .before .before .before .before .before .before .before .before .before .before .before .before .before .before .before .before .before .before .save-plan .result) (c .before .before .before .before .before .before .before .before .before .before .before .before .before .before .before .before .before .if3 .left)))
     _ _ _ _ _ _ (c .before .before .before .before .before .before .before .before .before .before .save-stored .ensures)
 
 pub save-spec : {M : Type 1} → statement M

@@ -2,7 +2,8 @@
 use native.Mathlib.Omega.{arith}
 use mathlib.Core.Path.{_≡_, refl, sym, ap, _∙_}
 use Rattle.callline.specs.Says.{numberSays}
-use Rattle.callline.proofs.ValueLaws.{range-stray, range-alone, range-third, range-half, range-two}
+use Rattle.callline.proofs.ValueLaws.{decimal-small, range-stray, range-alone, range-third, range-half, range-two}
+use Rattle.callline.specs.Values.{last32}
 use borrow.Author.Needs.{needs}
 use Rattle.callline.proofs.values.range.Statement.{statement}
 use Rattle.callline.proofs.values.range.Tie as tie
@@ -30,6 +31,12 @@ enum-told c = search needs
 
 returns : tie.Need-returns
 returns c = let s = (c .before .before .before .before .before .before) .args .s .now in let mid = c .before .before .before .before .piece-end .result in sym (range-stray s mid (c .before .before .before .before .piece-end .ensures .0) (sym (c .before .before .decimal .ensures) ∙ ap numberSays (c .enum-told .given .1)))
+
+cast-t13 : tie.Need-cast-t13
+cast-t13 c = omega (arith, decimal-small last32 _ _ (sym (c .before .before .before .before .decimal .ensures) ∙ ap numberSays (c .before .before .a .given .1)))
+
+cast-t14 : tie.Need-cast-t14
+cast-t14 c = omega (arith, decimal-small last32 _ _ (sym (c .before .before .before .before .decimal .ensures) ∙ ap numberSays (c .before .before .a .given .1)))
 
 returns-2 : tie.Need-returns-2
 returns-2 c = let s = (c .before .before .before .before .before .before .before .before) .args .s .now in let mid = c .before .before .before .before .before .before .piece-end .result in sym (range-alone s mid (c .before .before .before .before .before .before .piece-end .ensures .0) _ (omega arith) (sym (c .before .before .before .before .decimal .ensures) ∙ ap numberSays (c .before .before .a .given .1)))
@@ -64,6 +71,12 @@ enum-told-2 c = search needs
 returns-4 : tie.Need-returns-4
 returns-4 c = let s = (c .before .before .before .before .before .before .before .before .before .before .before .before .before .before) .args .s .now in let mid = c .before .before .before .before .before .before .before .before .before .before .before .before .piece-end .result in sym (range-half s mid (c .before .before .before .before .before .before .before .before .before .before .before .before .piece-end .ensures .0) (c .before .before .before .before .before .piece-end2 .result) (omega arith) (c .before .before .before .before .before .piece-end2 .ensures .0) _ (omega arith) (sym (c .before .before .before .before .before .before .before .before .before .before .decimal .ensures) ∙ ap numberSays (c .before .before .before .before .before .before .before .before .a .given .1)) (sym (c .before .before .decimal2 .ensures) ∙ ap numberSays (c .enum-told2 .given .1)))
 
+cast-t19 : tie.Need-cast-t19
+cast-t19 c = omega (arith, decimal-small last32 _ _ (sym (c .before .before .before .before .before .before .before .before .before .before .before .decimal .ensures) ∙ ap numberSays (c .before .before .before .before .before .before .before .before .before .a .given .1)))
+
+cast-t20 : tie.Need-cast-t20
+cast-t20 c = omega (arith, decimal-small last32 _ _ (sym (c .before .before .before .decimal2 .ensures) ∙ ap numberSays (c .before .b .given .1)))
+
 returns-5 : tie.Need-returns-5
 returns-5 c = let s = (c .before .before .before .before .before .before .before .before .before .before .before .before .before .before .before) .args .s .now in let mid = c .before .before .before .before .before .before .before .before .before .before .before .before .before .piece-end .result in sym (range-two s mid (c .before .before .before .before .before .before .before .before .before .before .before .before .before .piece-end .ensures .0) (c .before .before .before .before .before .before .piece-end2 .result) (omega arith) (c .before .before .before .before .before .before .piece-end2 .ensures .0) _ _ (omega arith) (sym (c .before .before .before .before .before .before .before .before .before .before .before .decimal .ensures) ∙ ap numberSays (c .before .before .before .before .before .before .before .before .before .a .given .1)) (sym (c .before .before .before .decimal2 .ensures) ∙ ap numberSays (c .before .b .given .1)))
 
@@ -79,6 +92,8 @@ range-spec =
     enum-known-a
     enum-told
     returns
+    cast-t13
+    cast-t14
     returns-2
     add-from
     piece-end-requires-2
@@ -90,4 +105,6 @@ range-spec =
     enum-known-b
     enum-told-2
     returns-4
+    cast-t19
+    cast-t20
     returns-5)
