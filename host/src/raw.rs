@@ -104,6 +104,9 @@ unsafe extern "C" {
     pub(crate) fn sigatuda_prepare(volumes: *mut u8, volumes_len: usize, commits: *const u8, commits_len: usize, vid: *const [u8; 16], local: u64, commit: u64, hash: *const [u8; 32]) -> Reply;
     pub(crate) fn sigatuda_success(volumes: *mut u8, volumes_len: usize, commits: *mut u8, commits_len: usize, checkpoints: *mut u8, checkpoints_len: usize, index: *mut u8, index_len: usize, vid: *const [u8; 16], commit: *const u8, commit_len: usize) -> Reply;
     pub(crate) fn sigatuda_recover(volumes: *mut u8, volumes_len: usize, commits: *mut u8, commits_len: usize, checkpoints: *mut u8, checkpoints_len: usize, index: *mut u8, index_len: usize, vid: *const [u8; 16]) -> Reply;
+    // over tables: copies
+    pub(crate) fn sigatuda_volume_from_snapshot(volumes: *mut u8, volumes_len: usize, commits: *mut u8, commits_len: usize, checkpoints: *mut u8, checkpoints_len: usize, index: *mut u8, index_len: usize, snapshot: *const u8, snapshot_len: usize, vid: *const [u8; 16], local: *const [u8; 16], remote: *const [u8; 16], out: *mut u8, out_len: usize) -> Reply;
+    pub(crate) fn sigatuda_volume_from_logref(volumes: *mut u8, volumes_len: usize, commits: *mut u8, commits_len: usize, checkpoints: *mut u8, checkpoints_len: usize, index: *mut u8, index_len: usize, log: *const [u8; 16], lsn: u64, vid: *const [u8; 16], local: *const [u8; 16], remote: *const [u8; 16], out: *mut u8, out_len: usize) -> Reply;
     // the integrator
     pub(crate) fn sigatuda_format() -> u32;
     pub(crate) fn sigatuda_record_size(table: u32) -> u32;

@@ -262,3 +262,21 @@ fn the_example() {
     assert_eq!((found.log, found.lsn), (LOCAL, lsn(2)));
     assert_eq!((t.checkpoints.held(), t.presence.held()), (Some(1), Some(4)), "the first save is a checkpoint");
 }
+
+#[test]
+fn copies() {
+    let mut tables = books();
+    let mut t = tables.lend();
+    for n in [3, 7] {
+        t.write_commit(&commit(REMOTE, n, &[1])).unwrap();
+    }
+    let copy = Volume { vid: SPARE.vid, local: SPARE.local, remote: SPARE.remote, sync: None, pending: None };
+    let seven = Snapshot::new(REMOTE, lsn(1), lsn(7), PageCount(9)).unwrap();
+    assert_eq!(t.volume_from_snapshot(&seven, SPARE), Ok(copy));
+    assert_eq!(t.commits.read(SPARE.local, lsn(2)), Ok(Some(Commit { log: SPARE.local, lsn: lsn(2), ..commit(REMOTE, 7, &[1]) })));
+    assert_eq!(t.volume_from_snapshot(&seven, SPARE), Err(Refusal::InUse));
+    assert_eq!(t.volume_from_logref(REMOTE, lsn(4), SPARE), Ok(None), "not stored, before 5");
+    let other = NewVolume { vid: VID, local: LOCAL, remote: LogId(id(30)) };
+    assert_eq!(t.volume_from_logref(REMOTE, lsn(3), other).map(|v| v.map(|v| v.vid)), Ok(Some(VID)));
+    assert_eq!(t.commits.held(), Some(5));
+}

@@ -494,3 +494,17 @@ fn recover() {
         plain::recover(v, c, k, i, &a.vid)
     });
 }
+
+#[test]
+fn volume_from_snapshot() {
+    hold(&[VOLUMES, COMMITS, CHECKPOINTS, INDEX], Place::Record(117), &[5, 19], snapshot, |[v, _, c, k, i, _], a, out, _| {
+        plain::volume_from_snapshot(v, c, k, i, &a.snapshot, &a.spares[0], &a.spares[1], &a.spares[2], out)
+    });
+}
+
+#[test]
+fn volume_from_logref() {
+    hold(&[VOLUMES, COMMITS, CHECKPOINTS, INDEX], Place::Record(117), &[5, 19], at, |[v, _, c, k, i, _], a, out, _| {
+        plain::volume_from_logref(v, c, k, i, &a.log, a.lsn, &a.spares[0], &a.spares[1], &a.spares[2], out)
+    });
+}

@@ -6,6 +6,7 @@ use crate::{LogId, Refusal, VolumeId};
 use core::marker::PhantomData;
 
 mod commits;
+mod copying;
 mod presence;
 mod reading;
 mod sending;

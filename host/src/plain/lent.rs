@@ -310,3 +310,73 @@ pub fn recover(volumes: &mut [u8], commits: &mut [u8], checkpoints: &mut [u8], i
         )
     }
 }
+
+/// A new volume whose local log holds the commits of a snapshot: 20, 1, 2, 3, 3 for `out`, 5, 19.
+#[allow(clippy::too_many_arguments)]
+pub fn volume_from_snapshot(
+    volumes: &mut [u8],
+    commits: &mut [u8],
+    checkpoints: &mut [u8],
+    index: &mut [u8],
+    snapshot: &[u8],
+    vid: &[u8; 16],
+    local: &[u8; 16],
+    remote: &[u8; 16],
+    out: &mut [u8],
+) -> Reply {
+    unsafe {
+        raw::sigatuda_volume_from_snapshot(
+            volumes.as_mut_ptr(),
+            volumes.len(),
+            commits.as_mut_ptr(),
+            commits.len(),
+            checkpoints.as_mut_ptr(),
+            checkpoints.len(),
+            index.as_mut_ptr(),
+            index.len(),
+            snapshot.as_ptr(),
+            snapshot.len(),
+            vid,
+            local,
+            remote,
+            out.as_mut_ptr(),
+            out.len(),
+        )
+    }
+}
+
+/// A new volume whose local log holds the commits of a log up to an LSN, or nothing where that commit is not stored: 20, 1, 3 for `out`,
+/// 5, 19.
+#[allow(clippy::too_many_arguments)]
+pub fn volume_from_logref(
+    volumes: &mut [u8],
+    commits: &mut [u8],
+    checkpoints: &mut [u8],
+    index: &mut [u8],
+    log: &[u8; 16],
+    lsn: u64,
+    vid: &[u8; 16],
+    local: &[u8; 16],
+    remote: &[u8; 16],
+    out: &mut [u8],
+) -> Reply {
+    unsafe {
+        raw::sigatuda_volume_from_logref(
+            volumes.as_mut_ptr(),
+            volumes.len(),
+            commits.as_mut_ptr(),
+            commits.len(),
+            checkpoints.as_mut_ptr(),
+            checkpoints.len(),
+            index.as_mut_ptr(),
+            index.len(),
+            log,
+            lsn,
+            vid,
+            local,
+            remote,
+            out.as_mut_ptr(),
+            out.len(),
+        )
+    }
+}

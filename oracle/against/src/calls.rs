@@ -14,7 +14,7 @@ macro_rules! calls {
         pub enum Op { $($op),* }
 
         impl Op {
-            pub const ALL: &'static [Op] = &[Op::VolumeRead, Op::VolumeExists, Op::VolumeDelete, Op::Drop, Op::TagRead, Op::TagExists, Op::TagDelete, Op::TagReplace, Op::CommitRead, Op::LatestCommit, Op::LatestLsn, Op::PageCount, Op::CheckpointAt, Op::PagePresent, Op::PageMark, Op::PageRemove, Op::PagesRemove, Op::Snapshot, Op::LatestCheck, Op::Search, Op::VolumeList, Op::TagList, Op::StoredLsns, Op::SnapshotCommits, Op::Walk, Op::MissingFrames, Op::Open, Op::WriteCommit, Op::Save, Op::Sync, Op::Prepare, Op::Success, Op::Recover];
+            pub const ALL: &'static [Op] = &[$(Op::$op),*];
 
             pub fn name(self) -> &'static str {
                 match self { $(Op::$op => $name),* }
@@ -206,8 +206,8 @@ fn run_write(op: Op, a: &Args, tables: &mut Six, out: &mut [u8]) -> Reply {
         Op::Prepare => plain::prepare(v, c, &a.vid, a.lsn, a.end, &a.hash),
         Op::Success => plain::success(v, c, k, i, &a.vid, &a.commit),
         Op::Recover => plain::recover(v, c, k, i, &a.vid),
-        Op::FromSnapshot => unreachable!("not exported yet"),
-        Op::FromLogref => unreachable!("not exported yet"),
+        Op::FromSnapshot => plain::volume_from_snapshot(v, c, k, i, &a.snapshot, s_vid, s_local, s_remote, out),
+        Op::FromLogref => plain::volume_from_logref(v, c, k, i, &a.log, a.lsn, s_vid, s_local, s_remote, out),
         _ => unreachable!(),
     }
 }

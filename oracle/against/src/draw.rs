@@ -224,7 +224,6 @@ impl Draw {
         };
         // volumes are not to run out
         let op = if op == Op::VolumeDelete && !self.r.one_in(4) { Op::VolumeExists } else { op };
-        let op = if Op::ALL.contains(&op) { op } else { self.r.pick(Op::ALL) };
         let mut args = self.args(op, both);
         match op {
             Op::Prepare => self.aim_prepare(&mut args, both),
