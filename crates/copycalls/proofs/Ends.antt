@@ -37,7 +37,7 @@ use Rattle.arguments.proofs.SnapshotLaws.{in-few, arg-says}
 use Rattle.writecalls.specs.Written.{logsIn}
 use Rattle.paths.specs.Left.{otherLog}
 use Rattle.paths.proofs.PathLaws.{path-without}
-use Rattle.copycalls.specs.Making.{Made, made, copyOk, argumentsIn, snapshotOn, logrefIn, logrefOn, outAfter, Leaves}
+use Rattle.copycalls.specs.Making.{Made, upTo, made, copyOk, argumentsIn, snapshotOn, logrefIn, logrefOn, outAfter, Leaves}
 use Rattle.copycalls.proofs.Asks.{formed, Passes, passes, local-free}
 
 -- ---- what is left
@@ -248,9 +248,9 @@ module _ (vs cs ks es : List ℕ) (log : Id) (lsn : ℕ) (x : Ids) (n : ℕ) whe
         not-stored e = by-commit none e
 
         -- its log up to it, without the local log's ranges
-        pub ref-goes : (c : Commit) → some c ≡ getCommit (commitsIn cs) log lsn → (l : List Range) → l ≡ those (otherLog (x .local)) (record { log = log; start = 1; end = lsn } ∷ []) → made (copied (volumesIn vs) (logsIn cs ks es) l x) ≡ logrefOn vs cs ks es log lsn x n
+        pub ref-goes : (c : Commit) → some c ≡ getCommit (commitsIn cs) log lsn → (l : List Range) → l ≡ those (otherLog (x .local)) (upTo log lsn ∷ []) → made (copied (volumesIn vs) (logsIn cs ks es) l x) ≡ logrefOn vs cs ks es log lsn x n
         unfolding made
         ref-goes c e l el =
             ap (λ (p : List Range). made (copied (volumesIn vs) (logsIn cs ks es) p x)) el
-            ∙ ap made (copied-without (volumesIn vs) (logsIn cs ks es) (record { log = log; start = 1; end = lsn } ∷ []) x)
+            ∙ ap made (copied-without (volumesIn vs) (logsIn cs ks es) (upTo log lsn ∷ []) x)
             ∙ sym (by-commit (some c) e)

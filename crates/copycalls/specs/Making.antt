@@ -9,7 +9,7 @@ use lib.ListN.{length}
 use Rattle.core.specs.Answers.{Answer, refused, done, ask, _>>=_, _>>_}
 use Rattle.core.specs.Numbers.{counts}
 use Rattle.rules.specs.Lists.{isSome}
-use Rattle.rules.specs.Records.{Id, Volume}
+use Rattle.rules.specs.Records.{Id, Range, Volume}
 use Rattle.rules.specs.Tables.{Table}
 use Rattle.rules.specs.Arguments.{snapshotLsns, snapshotOrder}
 use Rattle.rules.specs.Write.{Logs}
@@ -31,6 +31,10 @@ Made = Option Volume × Table Volume × Logs
 -- the new volume's identifiers
 abbrev pub ids : Id → Id → Id → Ids
 ids vid local remote = record { vid = vid; local = local; remote = remote }
+
+-- a log from LSN 1 to one
+abbrev pub upTo : Id → ℕ → Range
+upTo log lsn = record { log = log; start = 1; end = lsn }
 
 -- an answer that is always a volume
 unfoldable pub made : Answer (Volume × Table Volume × Logs) → Answer Made

@@ -31,9 +31,10 @@ use volumes::room_for_volume;
 use volumes::volumes_formed;
 ghost use mathlib.Core.Path.{_≡_};
 ghost use mathlib.Core.Bool.{true};
+ghost use mathlib.Core.List.{[], _∷_};
 ghost use lib.ListN.{length};
 ghost use Rattle.core.specs.Answers.{code};
-ghost use Rattle.rules.specs.Lists.{all, isNone};
+ghost use Rattle.rules.specs.Lists.{all, those, isNone};
 ghost use Rattle.rules.specs.Forms.{volumeForm};
 ghost use Rattle.rules.specs.Tables.{getVolume, latest};
 ghost use Rattle.rules.specs.Copies.{copyFree, newVolume, copied};
@@ -42,7 +43,7 @@ ghost use Rattle.layout.specs.Records.{volumeBytes};
 ghost use Rattle.layout.specs.Tables.{volumesIn, volumesOk, commitsIn, commitsOk, checkpointsOk, indexOk};
 ghost use Rattle.writecalls.specs.Written.{logsIn};
 ghost use Rattle.paths.specs.Left.{otherLog, isLeft, leftSays};
-ghost use Rattle.copycalls.specs.Making.{ids, copyOk, argumentsIn, made, snapshotOn, logrefOn, Leaves};
+ghost use Rattle.copycalls.specs.Making.{ids, upTo, copyOk, argumentsIn, made, snapshotOn, logrefOn, Leaves};
 
 // ---- what is asked of the lent bytes
 
@@ -220,6 +221,19 @@ fn copy_path(
 
 // ---- the calls
 
+// A log from LSN 1 to one, as a path without the ranges of the new local log.
+fn log_path(log: LogId, lsn: u64, local: LogId) -> Left
+    ensures { λ r. ⌜ isLeft r × (leftSays r ≡ those (otherLog local) (upTo log lsn ∷ [])) ⌝ }
+{
+    let range = LogRange {
+        log: log,
+        start: Lsn(1),
+        end: Lsn(lsn),
+    };
+    let path = [range; 8];
+    without(path, 1, local)
+}
+
 // A new volume whose local log has copies of a snapshot's commits: 20; 1, 2, 3 of the snapshot in bytes; 3 for a place of another length; 5, 19. Under 0 the place holds the volume.
 pub fn from_snapshot(
     volumes: &mut [u8],
@@ -288,13 +302,7 @@ pub fn from_logref(
     let Place::At(_) = find_commit(commits, log, lsn) else {
         return Reply { code: 0, found: 0 };
     };
-    let range = LogRange {
-        log: log,
-        start: Lsn(1),
-        end: Lsn(lsn),
-    };
-    let path = [range; 8];
-    let left = without(path, 1, local);
+    let left = log_path(log, lsn, local);
     copy_path(
         volumes,
         commits,
