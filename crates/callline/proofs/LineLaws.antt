@@ -126,6 +126,10 @@ module _ {B : Type 0} (line : Text) (b : B) where
       ways true false g e k = rw (g, after-more 32 line (c .end) (leb-false (length line) (c .end) e), split-first 32 (drop (c .end + 1) line))
       ways false q g e k = rw g
 
+pub and-fst : (a b : Bool) → (a && b) ≡ true → a ≡ true
+and-fst true b h = refl
+and-fst false b h = h
+
 -- a call is done where its fields leave no word, and 24 elsewhere
 abbrev pub Closed : Text → Cursor → Call → Answer Call → Type 0
 Closed line n b x = (isOver line n ≡ true → done b ≡ x) × (isOver line n ≡ false → refused malformed ≡ x)
