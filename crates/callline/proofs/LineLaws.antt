@@ -34,13 +34,13 @@ module _ {A B : Type 0} (key : Text) (value : Text → Answer A) (then : A → L
   through (refused n) = refl
   through (done ws) = field-through ws
 
-  value-both : (w : Text) (ws : List Text) (a : Answer A) → (a >>= λ v. then v ws) ≡ ((a >>= λ v. both v ws) >>= λ x. then (x .0) (x .1))
-  value-both w ws (refused n) = refl
-  value-both w ws (done v) = refl
+  value-both : (ws : List Text) (a : Answer A) → (a >>= λ v. then v ws) ≡ ((a >>= λ v. both v ws) >>= λ x. then (x .0) (x .1))
+  value-both ws (refused n) = refl
+  value-both ws (done v) = refl
 
   both-cons : (w : Text) (ws : List Text) (q : Bool) → starts key w ≡ q → field key value then (w ∷ ws) ≡ (field key value both (w ∷ ws) >>= λ x. then (x .0) (x .1))
   unfolding field
-  both-cons w ws true e = rw e (value-both w ws (value (drop (length key) w)))
+  both-cons w ws true e = rw e (value-both ws (value (drop (length key) w)))
   both-cons w ws false e = rw e
 
   -- a field is its value with the words after it first, and then what follows
@@ -99,7 +99,6 @@ listed (done l) then h = refl
 module _ (line key : Text) (c : Cursor) (p : Place) (h : placeSays line p ≡ readOn line c (field key done both)) (g : p .good ≡ true) where
   pub pages-placed : isDone (pagesOf (between (p .from) (p .to) line)) ≡ true → pagesSays line p ≡ readOn line c (field key pagesOf both)
   pages-placed e =
-      let t = between (p .from) (p .to) line in
       ap (λ (q : Bool). cond q (both (rangesIn (between (p .from) (p .to) line)) (piecesAfter 32 line (p .to))) (refused malformed)) g
       ∙ sym (listed (pagesOf (between (p .from) (p .to) line)) (λ v. both v (piecesAfter 32 line (p .to))) e)
       ∙ placed key pagesOf both line c p h g (pagesOf (between (p .from) (p .to) line)) refl
@@ -126,6 +125,10 @@ module _ {B : Type 0} (line : Text) (b : B) where
       ways true true g e k = absurd (let z : _≡_ {A = ℕ} 0 1 = cc in omega arith)
       ways true false g e k = rw (g, after-more 32 line (c .end) (leb-false (length line) (c .end) e), split-first 32 (drop (c .end + 1) line))
       ways false q g e k = rw g
+
+pub and-fst : (a b : Bool) → (a && b) ≡ true → a ≡ true
+and-fst true b h = refl
+and-fst false b h = h
 
 -- a call is done where its fields leave no word, and 24 elsewhere
 abbrev pub Closed : Text → Cursor → Call → Answer Call → Type 0

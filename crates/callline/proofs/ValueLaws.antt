@@ -1,7 +1,7 @@
 -- Laws of a line's values: a decimal digit by digit, a range by its ends, pages range by range.
 use Prim.Native.Nat.{ℕ, zero, suc, _+_, _*_, _-_, _<_, _≤_}
 use mathlib.Core.Path.{_≡_, refl, sym, ap, _∙_}
-use mathlib.Core.Bool.{Bool, true, false, cond, _&&_}
+use mathlib.Core.Bool.{Bool, true, false, _&&_, and-false}
 use mathlib.Core.List.{List, [], _∷_}
 use native.Mathlib.Numerals.{add-one}
 use native.Mathlib.Omega.{arith}
@@ -24,10 +24,6 @@ spelled-grows : (n : ℕ) (t : Text) → n ≤ spelled n t
 unfolding spelled
 spelled-grows n [] = omega arith
 spelled-grows n (b ∷ t) = omega (arith, spelled-grows (n * 10 + (b - 48)) t)
-
-and-false : (b : Bool) → (b && false) ≡ false
-and-false true = refl
-and-false false = refl
 
 -- a byte below or above the digits, or the letters of hex
 pub no-digit : (b : ℕ) → b < 48 → isDigit b ≡ false
@@ -78,7 +74,7 @@ unfolding decimalOf
 unled limit t h = rw h
 
 -- a check whose answer is a value held
-refused-done : {A : Type 0} (n : ℕ) (a : A) → _≡_ {A = Answer A} (refused n) (done a) → ⊥
+pub refused-done : {A : Type 0} (n : ℕ) (a : A) → _≡_ {A = Answer A} (refused n) (done a) → ⊥
 refused-done n a e = let z : _≡_ {A = ℕ} 0 1 = cc in omega arith
 
 asked : {A P : Type 0} (b : Bool) (n : ℕ) (k : Answer A) (a : A) → (ask b n >> k) ≡ done a → (b ≡ true → k ≡ done a → P) → P

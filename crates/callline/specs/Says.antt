@@ -1,5 +1,6 @@
 -- What the code's answers say: 24, or the value.
-use Prim.Native.Nat.{ℕ}
+use Prim.Native.Nat.{ℕ, _≤_}
+use mathlib.Core.Path.{_≡_}
 use mathlib.Core.Bool.{Bool, true, false, cond, _&&_}
 use mathlib.Core.List.{List, []}
 use lib.Dec.{leb}
@@ -77,3 +78,17 @@ lineSays line (Line.Save v s c i from to) = done (Save v s c i (rangesIn (betwee
 lineSays line (Line.Find s p) = done (Find s p)
 lineSays line (Line.Fetch g n c i from to) = done (Fetch g n c i (rangesIn (between from to line)))
 lineSays line (Line.Pull v) = done (Pull v)
+
+-- pages stand at their place in the form: from one place of the line up to another
+abbrev pub InForm : Text → ℕ → ℕ → Type 0
+InForm line from to = (from ≤ to) × (to ≤ length line) × (isDone (pagesOf (between from to line)) ≡ true)
+
+-- so they do in every answer that has pages
+abbrev pub Placed : Text → Line → Type 0
+Placed line Line.Malformed = Unit {0}
+Placed line (Line.Open v l r) = Unit {0}
+Placed line (Line.Snap v s) = Unit {0}
+Placed line (Line.Save v s c i from to) = InForm line from to
+Placed line (Line.Find s p) = Unit {0}
+Placed line (Line.Fetch g n c i from to) = InForm line from to
+Placed line (Line.Pull v) = Unit {0}

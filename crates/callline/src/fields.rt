@@ -3,13 +3,13 @@ use crate::texts;
 use crate::values;
 use crate::values::Number;
 ghost use mathlib.Core.Path.{_≡_};
-ghost use mathlib.Core.Bool.{false};
+ghost use mathlib.Core.Bool.{true, false};
 ghost use Prim.Native.Nat.{_≤_, _<_};
 ghost use lib.ListN.{length};
 ghost use Rattle.core.specs.Answers.{done};
 ghost use Rattle.callline.specs.Values.{identifierOf, decimalOf, pagesOf};
 ghost use Rattle.callline.specs.Lines.{field};
-ghost use Rattle.callline.specs.Says.{both, readOn, isOver, fieldSays, placeSays, pagesSays};
+ghost use Rattle.callline.specs.Says.{both, readOn, isOver, InForm, fieldSays, placeSays, pagesSays};
 
 // Where the last word that was read ends; or that the line is not in the form.
 pub struct Cursor {
@@ -123,7 +123,7 @@ pub fn decimal(line: &[u8], c: Cursor, key: &[u8], limit: u64) -> Field
 // Where the pages stand that the next word gives to the key.
 pub fn pages(line: &[u8], c: Cursor, key: &[u8]) -> Place
     ensures { λ r. ⌜ pagesSays (now (line .entry)) r ≡ readOn (now (line .entry)) c (field (now (key .entry)) pagesOf both) ⌝ }
-    ensures { λ r. ⌜ (r .from ≤ r .to) × (r .to ≤ length (now (line .entry))) ⌝ }
+    ensures { λ r. ⌜ (r .good ≡ true → InForm (now (line .entry)) (r .from) (r .to)) ⌝ }
 {
     let p = value_place(line, c, key);
     if !p.good {

@@ -7,7 +7,7 @@ use crate::fields::Cursor;
 use crate::values::LAST_U32;
 ghost use mathlib.Core.Path.{_≡_};
 ghost use Rattle.callline.specs.Lines.{openOf, snapOf, saveOf, findOf, fetchOf, pullOf, meaning};
-ghost use Rattle.callline.specs.Says.{readOn, lineSays};
+ghost use Rattle.callline.specs.Says.{readOn, lineSays, Placed};
 
 // The last of the slots that hold snapshots.
 pub const LAST_SLOT: u64 = 3;
@@ -58,6 +58,7 @@ pub enum Line {
 // op=open vid= local= remote=, behind its first word.
 fn parse_open(line: &[u8], op: Cursor) -> Line
     ensures { λ r. ⌜ lineSays (now (line .entry)) r ≡ readOn (now (line .entry)) op openOf ⌝ }
+    ensures { λ r. ⌜ Placed (now (line .entry)) r ⌝ }
 {
     let vid = fields::identifier(line, op, b"vid=");
     let local = fields::identifier(line, vid.next, b"local=");
@@ -75,6 +76,7 @@ fn parse_open(line: &[u8], op: Cursor) -> Line
 // op=snap vid= slot=, behind its first word.
 fn parse_snap(line: &[u8], op: Cursor) -> Line
     ensures { λ r. ⌜ lineSays (now (line .entry)) r ≡ readOn (now (line .entry)) op snapOf ⌝ }
+    ensures { λ r. ⌜ Placed (now (line .entry)) r ⌝ }
 {
     let vid = fields::identifier(line, op, b"vid=");
     let slot = fields::decimal(line, vid.next, b"slot=", LAST_SLOT);
@@ -90,6 +92,7 @@ fn parse_snap(line: &[u8], op: Cursor) -> Line
 // op=save vid= slot= count= sid= pages=, behind its first word.
 fn parse_save(line: &[u8], op: Cursor) -> Line
     ensures { λ r. ⌜ lineSays (now (line .entry)) r ≡ readOn (now (line .entry)) op saveOf ⌝ }
+    ensures { λ r. ⌜ Placed (now (line .entry)) r ⌝ }
 {
     let vid = fields::identifier(line, op, b"vid=");
     let slot = fields::decimal(line, vid.next, b"slot=", LAST_SLOT);
@@ -116,6 +119,7 @@ fn parse_save(line: &[u8], op: Cursor) -> Line
 // op=find slot= page=, behind its first word.
 fn parse_find(line: &[u8], op: Cursor) -> Line
     ensures { λ r. ⌜ lineSays (now (line .entry)) r ≡ readOn (now (line .entry)) op findOf ⌝ }
+    ensures { λ r. ⌜ Placed (now (line .entry)) r ⌝ }
 {
     let slot = fields::decimal(line, op, b"slot=", LAST_SLOT);
     let page = fields::decimal(line, slot.next, b"page=", LAST_U32);
@@ -131,6 +135,7 @@ fn parse_find(line: &[u8], op: Cursor) -> Line
 // op=fetch log= lsn= count= sid= pages=, behind its first word.
 fn parse_fetch(line: &[u8], op: Cursor) -> Line
     ensures { λ r. ⌜ lineSays (now (line .entry)) r ≡ readOn (now (line .entry)) op fetchOf ⌝ }
+    ensures { λ r. ⌜ Placed (now (line .entry)) r ⌝ }
 {
     let log = fields::identifier(line, op, b"log=");
     let lsn = fields::decimal(line, log.next, b"lsn=", LAST_LSN);
@@ -157,6 +162,7 @@ fn parse_fetch(line: &[u8], op: Cursor) -> Line
 // op=pull vid=, behind its first word.
 fn parse_pull(line: &[u8], op: Cursor) -> Line
     ensures { λ r. ⌜ lineSays (now (line .entry)) r ≡ readOn (now (line .entry)) op pullOf ⌝ }
+    ensures { λ r. ⌜ Placed (now (line .entry)) r ⌝ }
 {
     let vid = fields::identifier(line, op, b"vid=");
     if !fields::is_over(line, vid.next) {
@@ -170,6 +176,7 @@ fn parse_pull(line: &[u8], op: Cursor) -> Line
 // The call that a line names and the values of its keys, or that the line is not in the form.
 pub fn parse(line: &[u8]) -> Line
     ensures { λ r. ⌜ lineSays (now (line .entry)) r ≡ meaning (now (line .entry)) ⌝ }
+    ensures { λ r. ⌜ Placed (now (line .entry)) r ⌝ }
 {
     if LINE_BYTES < line.len() {
         return Line::Malformed;

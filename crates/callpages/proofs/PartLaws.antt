@@ -3,7 +3,7 @@
 use Prim.Native.Nat.{ℕ, zero, suc, _%_, _<_, _≤_}
 use mathlib.Core.Path.{_≡_, refl, sym, ap, _∙_}
 use mathlib.Core.Logic.{_⊎_, inl, inr}
-use mathlib.Core.Bool.{Bool, true, false, _&&_, _||_}
+use mathlib.Core.Bool.{Bool, true, false, _&&_, _||_, and-true, and-false, or-false, or-assoc}
 use mathlib.Core.List.{List, [], _∷_}
 use native.Mathlib.Omega.{arith}
 use borrow.Author.Tests.{le-leb, lt-leb, ltb-true, leb-true}
@@ -20,13 +20,10 @@ use Rattle.pageset.proofs.WindowLaws.{lt-or}
 use Rattle.callline.specs.Texts.{Text, split, isText}
 use Rattle.callline.specs.Values.{Range, malformed, rangeOf, follows, rising, dash, pagesOf}
 use Rattle.callline.specs.Says.{isDone}
-use Rattle.callline.proofs.ValueLaws.{pages-ranges, pages-24}
+use Rattle.callline.proofs.ValueLaws.{refused-done, pages-ranges, pages-24}
 use Rattle.callpages.specs.Pages.{inRanges, pagesRule}
 
 -- ---- answers
-
-refused-done : {A : Type 0} (n : ℕ) (a : A) → _≡_ {A = Answer A} (refused n) (done a) → ⊥
-refused-done n a e = let z : _≡_ {A = ℕ} 0 1 = cc in omega arith
 
 value-of : {A : Type 0} (x : Answer A) → isDone x ≡ true → (a : A) × (x ≡ done a)
 value-of (refused n) h = absurd (let z : _≡_ {A = ℕ} 0 1 = cc in omega arith)
@@ -110,22 +107,6 @@ part-start t h n =
       below = λ q _. empty-pages q;
       pages = λ q. ap (λ (b : Bool). b || inRanges (v .0) q) (empty-pages q);
     }
-
-or-assoc : (a b c : Bool) → ((a || b) || c) ≡ (a || (b || c))
-or-assoc true b c = refl
-or-assoc false b c = refl
-
-or-false : (a : Bool) → (a || false) ≡ a
-or-false true = refl
-or-false false = refl
-
-and-false : (a : Bool) → (a && false) ≡ false
-and-false true = refl
-and-false false = refl
-
-and-true : (a : Bool) → (a && true) ≡ a
-and-true true = refl
-and-true false = refl
 
 pub or-and : (a b : Bool) → ((a || b) && b) ≡ b
 or-and true b = refl

@@ -1,3 +1,4 @@
--- `DigitLaws`: a decimal, digit by digit from its last; `PrintLaws`: a line, part by part.
+-- `DigitLaws`: a decimal, digit by digit from its last; `PrintLaws`: a line, part by part; `Examples`: lines of document 01.
 pub mod DigitLaws
 pub mod PrintLaws
+pub mod Examples

@@ -8,7 +8,7 @@ use Rattle.callline.proofs.parse.Statement.{statement}
 use Rattle.callline.proofs.parse.Tie as tie
 
 returns : tie.Need-returns
-returns c = too-long ((c .before .before) .args .line .now) (omega arith)
+returns c = (too-long ((c .before .before) .args .line .now) (omega arith), tt)
 
 piece-end-requires : tie.Need-piece-end-requires
 piece-end-requires c κs = search needs
@@ -32,7 +32,7 @@ parse-open-requires : tie.Need-parse-open-requires
 parse-open-requires c κs = search needs
 
 returns-2 : tie.Need-returns-2
-returns-2 c = let line = (c .before .before .before .before .before .before .before .before) .args .line .now in let e = c .before .before .before .before .before .piece-end .result in let first = first-word line e (omega arith) (c .before .before .before .before .before .piece-end .ensures .0) in let w = between 0 e line in let ws = piecesAfter 32 line e in c .parse-open .ensures ∙ sym (first ∙ call-open w ws (sym (c .before .before .is-text .ensures) ∙ c .before .if2 .taken))
+returns-2 c = (let line = (c .before .before .before .before .before .before .before .before) .args .line .now in let e = c .before .before .before .before .before .piece-end .result in let first = first-word line e (omega arith) (c .before .before .before .before .before .piece-end .ensures .0) in let w = between 0 e line in let ws = piecesAfter 32 line e in c .parse-open .ensures .0 ∙ sym (first ∙ call-open w ws (sym (c .before .before .is-text .ensures) ∙ c .before .if2 .taken)), c .parse-open .ensures .1)
 
 sub-is-text-2 : tie.Need-sub-is-text-2
 sub-is-text-2 c = search needs
@@ -53,7 +53,7 @@ parse-snap-requires : tie.Need-parse-snap-requires
 parse-snap-requires c κs = search needs
 
 returns-3 : tie.Need-returns-3
-returns-3 c = let line = (c .before .before .before .before .before .before .before .before .before .before .before .before) .args .line .now in let e = c .before .before .before .before .before .before .before .before .before .piece-end .result in let first = first-word line e (omega arith) (c .before .before .before .before .before .before .before .before .before .piece-end .ensures .0) in let w = between 0 e line in let ws = piecesAfter 32 line e in c .parse-snap .ensures ∙ sym (first ∙ call-snap w ws (sym (c .before .before .before .before .before .before .is-text .ensures) ∙ c .before .before .before .before .before .if2 .left) (sym (c .before .before .is-text2 .ensures) ∙ c .before .if3 .taken))
+returns-3 c = (let line = (c .before .before .before .before .before .before .before .before .before .before .before .before) .args .line .now in let e = c .before .before .before .before .before .before .before .before .before .piece-end .result in let first = first-word line e (omega arith) (c .before .before .before .before .before .before .before .before .before .piece-end .ensures .0) in let w = between 0 e line in let ws = piecesAfter 32 line e in c .parse-snap .ensures .0 ∙ sym (first ∙ call-snap w ws (sym (c .before .before .before .before .before .before .is-text .ensures) ∙ c .before .before .before .before .before .if2 .left) (sym (c .before .before .is-text2 .ensures) ∙ c .before .if3 .taken)), c .parse-snap .ensures .1)
 
 sub-is-text-3 : tie.Need-sub-is-text-3
 sub-is-text-3 c = search needs
@@ -74,7 +74,7 @@ parse-save-requires : tie.Need-parse-save-requires
 parse-save-requires c κs = search needs
 
 returns-4 : tie.Need-returns-4
-returns-4 c = let line = (c .before .before .before .before .before .before .before .before .before .before .before .before .before .before .before .before) .args .line .now in let e = c .before .before .before .before .before .before .before .before .before .before .before .before .before .piece-end .result in let first = first-word line e (omega arith) (c .before .before .before .before .before .before .before .before .before .before .before .before .before .piece-end .ensures .0) in let w = between 0 e line in let ws = piecesAfter 32 line e in c .parse-save .ensures ∙ sym (first ∙ call-save w ws (sym (c .before .before .before .before .before .before .before .before .before .before .is-text .ensures) ∙ c .before .before .before .before .before .before .before .before .before .if2 .left) (sym (c .before .before .before .before .before .before .is-text2 .ensures) ∙ c .before .before .before .before .before .if3 .left) (sym (c .before .before .is-text3 .ensures) ∙ c .before .if4 .taken))
+returns-4 c = (let line = (c .before .before .before .before .before .before .before .before .before .before .before .before .before .before .before .before) .args .line .now in let e = c .before .before .before .before .before .before .before .before .before .before .before .before .before .piece-end .result in let first = first-word line e (omega arith) (c .before .before .before .before .before .before .before .before .before .before .before .before .before .piece-end .ensures .0) in let w = between 0 e line in let ws = piecesAfter 32 line e in c .parse-save .ensures .0 ∙ sym (first ∙ call-save w ws (sym (c .before .before .before .before .before .before .before .before .before .before .is-text .ensures) ∙ c .before .before .before .before .before .before .before .before .before .if2 .left) (sym (c .before .before .before .before .before .before .is-text2 .ensures) ∙ c .before .before .before .before .before .if3 .left) (sym (c .before .before .is-text3 .ensures) ∙ c .before .if4 .taken)), c .parse-save .ensures .1)
 
 sub-is-text-4 : tie.Need-sub-is-text-4
 sub-is-text-4 c = search needs
@@ -95,7 +95,7 @@ parse-find-requires : tie.Need-parse-find-requires
 parse-find-requires c κs = search needs
 
 returns-5 : tie.Need-returns-5
-returns-5 c = let line = (c .before .before .before .before .before .before .before .before .before .before .before .before .before .before .before .before .before .before .before .before) .args .line .now in let e = c .before .before .before .before .before .before .before .before .before .before .before .before .before .before .before .before .before .piece-end .result in let first = first-word line e (omega arith) (c .before .before .before .before .before .before .before .before .before .before .before .before .before .before .before .before .before .piece-end .ensures .0) in let w = between 0 e line in let ws = piecesAfter 32 line e in c .parse-find .ensures ∙ sym (first ∙ call-find w ws (sym (c .before .before .before .before .before .before .before .before .before .before .before .before .before .before .is-text .ensures) ∙ c .before .before .before .before .before .before .before .before .before .before .before .before .before .if2 .left) (sym (c .before .before .before .before .before .before .before .before .before .before .is-text2 .ensures) ∙ c .before .before .before .before .before .before .before .before .before .if3 .left) (sym (c .before .before .before .before .before .before .is-text3 .ensures) ∙ c .before .before .before .before .before .if4 .left) (sym (c .before .before .is-text4 .ensures) ∙ c .before .if5 .taken))
+returns-5 c = (let line = (c .before .before .before .before .before .before .before .before .before .before .before .before .before .before .before .before .before .before .before .before) .args .line .now in let e = c .before .before .before .before .before .before .before .before .before .before .before .before .before .before .before .before .before .piece-end .result in let first = first-word line e (omega arith) (c .before .before .before .before .before .before .before .before .before .before .before .before .before .before .before .before .before .piece-end .ensures .0) in let w = between 0 e line in let ws = piecesAfter 32 line e in c .parse-find .ensures .0 ∙ sym (first ∙ call-find w ws (sym (c .before .before .before .before .before .before .before .before .before .before .before .before .before .before .is-text .ensures) ∙ c .before .before .before .before .before .before .before .before .before .before .before .before .before .if2 .left) (sym (c .before .before .before .before .before .before .before .before .before .before .is-text2 .ensures) ∙ c .before .before .before .before .before .before .before .before .before .if3 .left) (sym (c .before .before .before .before .before .before .is-text3 .ensures) ∙ c .before .before .before .before .before .if4 .left) (sym (c .before .before .is-text4 .ensures) ∙ c .before .if5 .taken)), c .parse-find .ensures .1)
 
 sub-is-text-5 : tie.Need-sub-is-text-5
 sub-is-text-5 c = search needs
@@ -116,7 +116,7 @@ parse-fetch-requires : tie.Need-parse-fetch-requires
 parse-fetch-requires c κs = search needs
 
 returns-6 : tie.Need-returns-6
-returns-6 c = let line = (c .before .before .before .before .before .before .before .before .before .before .before .before .before .before .before .before .before .before .before .before .before .before .before .before) .args .line .now in let e = c .before .before .before .before .before .before .before .before .before .before .before .before .before .before .before .before .before .before .before .before .before .piece-end .result in let first = first-word line e (omega arith) (c .before .before .before .before .before .before .before .before .before .before .before .before .before .before .before .before .before .before .before .before .before .piece-end .ensures .0) in let w = between 0 e line in let ws = piecesAfter 32 line e in c .parse-fetch .ensures ∙ sym (first ∙ call-fetch w ws (sym (c .before .before .before .before .before .before .before .before .before .before .before .before .before .before .before .before .before .before .is-text .ensures) ∙ c .before .before .before .before .before .before .before .before .before .before .before .before .before .before .before .before .before .if2 .left) (sym (c .before .before .before .before .before .before .before .before .before .before .before .before .before .before .is-text2 .ensures) ∙ c .before .before .before .before .before .before .before .before .before .before .before .before .before .if3 .left) (sym (c .before .before .before .before .before .before .before .before .before .before .is-text3 .ensures) ∙ c .before .before .before .before .before .before .before .before .before .if4 .left) (sym (c .before .before .before .before .before .before .is-text4 .ensures) ∙ c .before .before .before .before .before .if5 .left) (sym (c .before .before .is-text5 .ensures) ∙ c .before .if6 .taken))
+returns-6 c = (let line = (c .before .before .before .before .before .before .before .before .before .before .before .before .before .before .before .before .before .before .before .before .before .before .before .before) .args .line .now in let e = c .before .before .before .before .before .before .before .before .before .before .before .before .before .before .before .before .before .before .before .before .before .piece-end .result in let first = first-word line e (omega arith) (c .before .before .before .before .before .before .before .before .before .before .before .before .before .before .before .before .before .before .before .before .before .piece-end .ensures .0) in let w = between 0 e line in let ws = piecesAfter 32 line e in c .parse-fetch .ensures .0 ∙ sym (first ∙ call-fetch w ws (sym (c .before .before .before .before .before .before .before .before .before .before .before .before .before .before .before .before .before .before .is-text .ensures) ∙ c .before .before .before .before .before .before .before .before .before .before .before .before .before .before .before .before .before .if2 .left) (sym (c .before .before .before .before .before .before .before .before .before .before .before .before .before .before .is-text2 .ensures) ∙ c .before .before .before .before .before .before .before .before .before .before .before .before .before .if3 .left) (sym (c .before .before .before .before .before .before .before .before .before .before .is-text3 .ensures) ∙ c .before .before .before .before .before .before .before .before .before .if4 .left) (sym (c .before .before .before .before .before .before .is-text4 .ensures) ∙ c .before .before .before .before .before .if5 .left) (sym (c .before .before .is-text5 .ensures) ∙ c .before .if6 .taken)), c .parse-fetch .ensures .1)
 
 sub-is-text-6 : tie.Need-sub-is-text-6
 sub-is-text-6 c = search needs
@@ -137,10 +137,10 @@ parse-pull-requires : tie.Need-parse-pull-requires
 parse-pull-requires c κs = search needs
 
 returns-7 : tie.Need-returns-7
-returns-7 c = let line = (c .before .before .before .before .before .before .before .before .before .before .before .before .before .before .before .before .before .before .before .before .before .before .before .before .before .before .before .before) .args .line .now in let e = c .before .before .before .before .before .before .before .before .before .before .before .before .before .before .before .before .before .before .before .before .before .before .before .before .before .piece-end .result in let first = first-word line e (omega arith) (c .before .before .before .before .before .before .before .before .before .before .before .before .before .before .before .before .before .before .before .before .before .before .before .before .before .piece-end .ensures .0) in let w = between 0 e line in let ws = piecesAfter 32 line e in c .parse-pull .ensures ∙ sym (first ∙ call-pull w ws (sym (c .before .before .before .before .before .before .before .before .before .before .before .before .before .before .before .before .before .before .before .before .before .before .is-text .ensures) ∙ c .before .before .before .before .before .before .before .before .before .before .before .before .before .before .before .before .before .before .before .before .before .if2 .left) (sym (c .before .before .before .before .before .before .before .before .before .before .before .before .before .before .before .before .before .before .is-text2 .ensures) ∙ c .before .before .before .before .before .before .before .before .before .before .before .before .before .before .before .before .before .if3 .left) (sym (c .before .before .before .before .before .before .before .before .before .before .before .before .before .before .is-text3 .ensures) ∙ c .before .before .before .before .before .before .before .before .before .before .before .before .before .if4 .left) (sym (c .before .before .before .before .before .before .before .before .before .before .is-text4 .ensures) ∙ c .before .before .before .before .before .before .before .before .before .if5 .left) (sym (c .before .before .before .before .before .before .is-text5 .ensures) ∙ c .before .before .before .before .before .if6 .left) (sym (c .before .before .is-text6 .ensures) ∙ c .before .if7 .taken))
+returns-7 c = (let line = (c .before .before .before .before .before .before .before .before .before .before .before .before .before .before .before .before .before .before .before .before .before .before .before .before .before .before .before .before) .args .line .now in let e = c .before .before .before .before .before .before .before .before .before .before .before .before .before .before .before .before .before .before .before .before .before .before .before .before .before .piece-end .result in let first = first-word line e (omega arith) (c .before .before .before .before .before .before .before .before .before .before .before .before .before .before .before .before .before .before .before .before .before .before .before .before .before .piece-end .ensures .0) in let w = between 0 e line in let ws = piecesAfter 32 line e in c .parse-pull .ensures .0 ∙ sym (first ∙ call-pull w ws (sym (c .before .before .before .before .before .before .before .before .before .before .before .before .before .before .before .before .before .before .before .before .before .before .is-text .ensures) ∙ c .before .before .before .before .before .before .before .before .before .before .before .before .before .before .before .before .before .before .before .before .before .if2 .left) (sym (c .before .before .before .before .before .before .before .before .before .before .before .before .before .before .before .before .before .before .is-text2 .ensures) ∙ c .before .before .before .before .before .before .before .before .before .before .before .before .before .before .before .before .before .if3 .left) (sym (c .before .before .before .before .before .before .before .before .before .before .before .before .before .before .is-text3 .ensures) ∙ c .before .before .before .before .before .before .before .before .before .before .before .before .before .if4 .left) (sym (c .before .before .before .before .before .before .before .before .before .before .is-text4 .ensures) ∙ c .before .before .before .before .before .before .before .before .before .if5 .left) (sym (c .before .before .before .before .before .before .is-text5 .ensures) ∙ c .before .before .before .before .before .if6 .left) (sym (c .before .before .is-text6 .ensures) ∙ c .before .if7 .taken)), c .parse-pull .ensures .1)
 
 returns-8 : tie.Need-returns-8
-returns-8 c = let line = (c .before .before .before .before .before .before .before .before .before .before .before .before .before .before .before .before .before .before .before .before .before .before .before .before .before .before .before) .args .line .now in let e = c .before .before .before .before .before .before .before .before .before .before .before .before .before .before .before .before .before .before .before .before .before .before .before .before .piece-end .result in let first = first-word line e (omega arith) (c .before .before .before .before .before .before .before .before .before .before .before .before .before .before .before .before .before .before .before .before .before .before .before .before .piece-end .ensures .0) in let w = between 0 e line in let ws = piecesAfter 32 line e in sym (first ∙ call-none w ws (sym (c .before .before .before .before .before .before .before .before .before .before .before .before .before .before .before .before .before .before .before .before .before .is-text .ensures) ∙ c .before .before .before .before .before .before .before .before .before .before .before .before .before .before .before .before .before .before .before .before .if2 .left) (sym (c .before .before .before .before .before .before .before .before .before .before .before .before .before .before .before .before .before .is-text2 .ensures) ∙ c .before .before .before .before .before .before .before .before .before .before .before .before .before .before .before .before .if3 .left) (sym (c .before .before .before .before .before .before .before .before .before .before .before .before .before .is-text3 .ensures) ∙ c .before .before .before .before .before .before .before .before .before .before .before .before .if4 .left) (sym (c .before .before .before .before .before .before .before .before .before .is-text4 .ensures) ∙ c .before .before .before .before .before .before .before .before .if5 .left) (sym (c .before .before .before .before .before .is-text5 .ensures) ∙ c .before .before .before .before .if6 .left) (sym (c .before .is-text6 .ensures) ∙ c .if7 .left))
+returns-8 c = (let line = (c .before .before .before .before .before .before .before .before .before .before .before .before .before .before .before .before .before .before .before .before .before .before .before .before .before .before .before) .args .line .now in let e = c .before .before .before .before .before .before .before .before .before .before .before .before .before .before .before .before .before .before .before .before .before .before .before .before .piece-end .result in let first = first-word line e (omega arith) (c .before .before .before .before .before .before .before .before .before .before .before .before .before .before .before .before .before .before .before .before .before .before .before .before .piece-end .ensures .0) in let w = between 0 e line in let ws = piecesAfter 32 line e in sym (first ∙ call-none w ws (sym (c .before .before .before .before .before .before .before .before .before .before .before .before .before .before .before .before .before .before .before .before .before .is-text .ensures) ∙ c .before .before .before .before .before .before .before .before .before .before .before .before .before .before .before .before .before .before .before .before .if2 .left) (sym (c .before .before .before .before .before .before .before .before .before .before .before .before .before .before .before .before .before .is-text2 .ensures) ∙ c .before .before .before .before .before .before .before .before .before .before .before .before .before .before .before .before .if3 .left) (sym (c .before .before .before .before .before .before .before .before .before .before .before .before .before .is-text3 .ensures) ∙ c .before .before .before .before .before .before .before .before .before .before .before .before .if4 .left) (sym (c .before .before .before .before .before .before .before .before .before .is-text4 .ensures) ∙ c .before .before .before .before .before .before .before .before .if5 .left) (sym (c .before .before .before .before .before .is-text5 .ensures) ∙ c .before .before .before .before .if6 .left) (sym (c .before .is-text6 .ensures) ∙ c .if7 .left)), tt)
 
 pub parse-spec : {M : Type 1} → statement M
 parse-spec =

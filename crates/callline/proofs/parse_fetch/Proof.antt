@@ -1,7 +1,7 @@
 -- `parse_fetch` meets its contract: each field is read where the one before it ends, and no word is left. Assumes nothing.
 use mathlib.Core.Path.{_≡_, refl, sym, ap, _∙_}
 use borrow.Author.Tests.{not-true, not-false}
-use Rattle.callline.proofs.LineLaws.{fetched}
+use Rattle.callline.proofs.LineLaws.{and-fst, fetched}
 use Rattle.callline.specs.Texts.{between}
 use Rattle.callline.specs.Says.{rangesIn}
 use borrow.Author.Needs.{needs}
@@ -42,7 +42,7 @@ is-over-requires : tie.Need-is-over-requires
 is-over-requires c κs = search needs
 
 returns : tie.Need-returns
-returns c = let line = (c .before .before .before .before .before .before .before .before .before .before .before .before .before) .args .line .now in fetched line ((c .before .before .before .before .before .before .before .before .before .before .before .before .before) .args .op) (c .before .before .before .before .before .before .before .before .before .before .identifier .result .next) (c .before .before .before .before .before .before .before .before .decimal .result .next) (c .before .before .before .before .before .before .decimal2 .result .next) (c .before .before .before .before .identifier2 .result .next) (record { good = c .before .before .pages .result .good; end = c .before .before .pages .result .to }) (c .before .before .before .before .before .before .decimal2 .result .value) (c .before .before .before .before .identifier2 .result .value) (rangesIn (between (c .before .before .pages .result .from) (c .before .before .pages .result .to) line)) (c .before .before .before .before .before .before .decimal2 .ensures .0) (c .before .before .before .before .identifier2 .ensures .0) (c .before .before .pages .ensures .0) (c .before .before .before .before .before .before .before .before .before .before .identifier .result .value) (c .before .before .before .before .before .before .before .before .decimal .result .value) (c .before .before .before .before .before .before .before .before .before .before .identifier .ensures .0) (c .before .before .before .before .before .before .before .before .decimal .ensures .0) .1 (sym (c .before .is-over .ensures) ∙ not-true _ (c .if1 .taken))
+returns c = (let line = (c .before .before .before .before .before .before .before .before .before .before .before .before .before) .args .line .now in fetched line ((c .before .before .before .before .before .before .before .before .before .before .before .before .before) .args .op) (c .before .before .before .before .before .before .before .before .before .before .identifier .result .next) (c .before .before .before .before .before .before .before .before .decimal .result .next) (c .before .before .before .before .before .before .decimal2 .result .next) (c .before .before .before .before .identifier2 .result .next) (record { good = c .before .before .pages .result .good; end = c .before .before .pages .result .to }) (c .before .before .before .before .before .before .decimal2 .result .value) (c .before .before .before .before .identifier2 .result .value) (rangesIn (between (c .before .before .pages .result .from) (c .before .before .pages .result .to) line)) (c .before .before .before .before .before .before .decimal2 .ensures .0) (c .before .before .before .before .identifier2 .ensures .0) (c .before .before .pages .ensures .0) (c .before .before .before .before .before .before .before .before .before .before .identifier .result .value) (c .before .before .before .before .before .before .before .before .decimal .result .value) (c .before .before .before .before .before .before .before .before .before .before .identifier .ensures .0) (c .before .before .before .before .before .before .before .before .decimal .ensures .0) .1 (sym (c .before .is-over .ensures) ∙ not-true _ (c .if1 .taken)), tt)
 
 cast-t26 : tie.Need-cast-t26
 cast-t26 c = search needs
@@ -54,7 +54,7 @@ cast-t28 : tie.Need-cast-t28
 cast-t28 c = search needs
 
 returns-2 : tie.Need-returns-2
-returns-2 c = let line = (c .before .before .before .before .before .before .before .before .before .before .before .before .before .before .before .before) .args .line .now in fetched line ((c .before .before .before .before .before .before .before .before .before .before .before .before .before .before .before .before) .args .op) (c .before .before .before .before .before .before .before .before .before .before .before .before .before .identifier .result .next) (c .before .before .before .before .before .before .before .before .before .before .before .decimal .result .next) (c .before .before .before .before .before .before .before .before .before .decimal2 .result .next) (c .before .before .before .before .before .before .before .identifier2 .result .next) (record { good = c .before .before .before .before .before .pages .result .good; end = c .before .before .before .before .before .pages .result .to }) (c .before .before .before .before .before .before .before .before .before .decimal2 .result .value) (c .before .before .before .before .before .before .before .identifier2 .result .value) (rangesIn (between (c .before .before .before .before .before .pages .result .from) (c .before .before .before .before .before .pages .result .to) line)) (c .before .before .before .before .before .before .before .before .before .decimal2 .ensures .0) (c .before .before .before .before .before .before .before .identifier2 .ensures .0) (c .before .before .before .before .before .pages .ensures .0) (c .before .before .before .before .before .before .before .before .before .before .before .before .before .identifier .result .value) (c .before .before .before .before .before .before .before .before .before .before .before .decimal .result .value) (c .before .before .before .before .before .before .before .before .before .before .before .before .before .identifier .ensures .0) (c .before .before .before .before .before .before .before .before .before .before .before .decimal .ensures .0) .0 (sym (c .before .before .before .before .is-over .ensures) ∙ not-false _ (c .before .before .before .if1 .left))
+returns-2 c = (let line = (c .before .before .before .before .before .before .before .before .before .before .before .before .before .before .before .before) .args .line .now in fetched line ((c .before .before .before .before .before .before .before .before .before .before .before .before .before .before .before .before) .args .op) (c .before .before .before .before .before .before .before .before .before .before .before .before .before .identifier .result .next) (c .before .before .before .before .before .before .before .before .before .before .before .decimal .result .next) (c .before .before .before .before .before .before .before .before .before .decimal2 .result .next) (c .before .before .before .before .before .before .before .identifier2 .result .next) (record { good = c .before .before .before .before .before .pages .result .good; end = c .before .before .before .before .before .pages .result .to }) (c .before .before .before .before .before .before .before .before .before .decimal2 .result .value) (c .before .before .before .before .before .before .before .identifier2 .result .value) (rangesIn (between (c .before .before .before .before .before .pages .result .from) (c .before .before .before .before .before .pages .result .to) line)) (c .before .before .before .before .before .before .before .before .before .decimal2 .ensures .0) (c .before .before .before .before .before .before .before .identifier2 .ensures .0) (c .before .before .before .before .before .pages .ensures .0) (c .before .before .before .before .before .before .before .before .before .before .before .before .before .identifier .result .value) (c .before .before .before .before .before .before .before .before .before .before .before .decimal .result .value) (c .before .before .before .before .before .before .before .before .before .before .before .before .before .identifier .ensures .0) (c .before .before .before .before .before .before .before .before .before .before .before .decimal .ensures .0) .0 (sym (c .before .before .before .before .is-over .ensures) ∙ not-false _ (c .before .before .before .if1 .left)), c .before .before .before .before .before .pages .ensures .1 (and-fst (c .before .before .before .before .before .pages .result .good) _ (sym (c .before .before .before .before .is-over .ensures) ∙ not-false _ (c .before .before .before .if1 .left))))
 
 pub parse-fetch-spec : {M : Type 1} → statement M
 parse-fetch-spec =

@@ -28,7 +28,7 @@ is-over-requires : tie.Need-is-over-requires
 is-over-requires c κs = search needs
 
 returns : tie.Need-returns
-returns c = let line = (c .before .before .before .before .before .before .before .before .before) .args .line .now in opened line ((c .before .before .before .before .before .before .before .before .before) .args .op) (c .before .before .before .before .before .before .identifier .result .next) (c .before .before .before .before .identifier2 .result .next) (c .before .before .identifier3 .result .next) (c .before .before .before .before .before .before .identifier .result .value) (c .before .before .before .before .identifier2 .result .value) (c .before .before .identifier3 .result .value) (c .before .before .before .before .before .before .identifier .ensures .0) (c .before .before .before .before .identifier2 .ensures .0) (c .before .before .identifier3 .ensures .0) .1 (sym (c .before .is-over .ensures) ∙ not-true _ (c .if1 .taken))
+returns c = (let line = (c .before .before .before .before .before .before .before .before .before) .args .line .now in opened line ((c .before .before .before .before .before .before .before .before .before) .args .op) (c .before .before .before .before .before .before .identifier .result .next) (c .before .before .before .before .identifier2 .result .next) (c .before .before .identifier3 .result .next) (c .before .before .before .before .before .before .identifier .result .value) (c .before .before .before .before .identifier2 .result .value) (c .before .before .identifier3 .result .value) (c .before .before .before .before .before .before .identifier .ensures .0) (c .before .before .before .before .identifier2 .ensures .0) (c .before .before .identifier3 .ensures .0) .1 (sym (c .before .is-over .ensures) ∙ not-true _ (c .if1 .taken)), tt)
 
 cast-t17 : tie.Need-cast-t17
 cast-t17 c = search needs
@@ -40,7 +40,7 @@ cast-t19 : tie.Need-cast-t19
 cast-t19 c = search needs
 
 returns-2 : tie.Need-returns-2
-returns-2 c = let line = (c .before .before .before .before .before .before .before .before .before .before .before .before) .args .line .now in opened line ((c .before .before .before .before .before .before .before .before .before .before .before .before) .args .op) (c .before .before .before .before .before .before .before .before .before .identifier .result .next) (c .before .before .before .before .before .before .before .identifier2 .result .next) (c .before .before .before .before .before .identifier3 .result .next) (c .before .before .before .before .before .before .before .before .before .identifier .result .value) (c .before .before .before .before .before .before .before .identifier2 .result .value) (c .before .before .before .before .before .identifier3 .result .value) (c .before .before .before .before .before .before .before .before .before .identifier .ensures .0) (c .before .before .before .before .before .before .before .identifier2 .ensures .0) (c .before .before .before .before .before .identifier3 .ensures .0) .0 (sym (c .before .before .before .before .is-over .ensures) ∙ not-false _ (c .before .before .before .if1 .left))
+returns-2 c = (let line = (c .before .before .before .before .before .before .before .before .before .before .before .before) .args .line .now in opened line ((c .before .before .before .before .before .before .before .before .before .before .before .before) .args .op) (c .before .before .before .before .before .before .before .before .before .identifier .result .next) (c .before .before .before .before .before .before .before .identifier2 .result .next) (c .before .before .before .before .before .identifier3 .result .next) (c .before .before .before .before .before .before .before .before .before .identifier .result .value) (c .before .before .before .before .before .before .before .identifier2 .result .value) (c .before .before .before .before .before .identifier3 .result .value) (c .before .before .before .before .before .before .before .before .before .identifier .ensures .0) (c .before .before .before .before .before .before .before .identifier2 .ensures .0) (c .before .before .before .before .before .identifier3 .ensures .0) .0 (sym (c .before .before .before .before .is-over .ensures) ∙ not-false _ (c .before .before .before .if1 .left)), tt)
 
 pub parse-open-spec : {M : Type 1} → statement M
 parse-open-spec =

@@ -16,13 +16,13 @@ is-over-requires : tie.Need-is-over-requires
 is-over-requires c κs = search needs
 
 returns : tie.Need-returns
-returns c = let line = (c .before .before .before .before .before) .args .line .now in pulled line ((c .before .before .before .before .before) .args .op) (c .before .before .identifier .result .next) (c .before .before .identifier .result .value) (c .before .before .identifier .ensures .0) .1 (sym (c .before .is-over .ensures) ∙ not-true _ (c .if1 .taken))
+returns c = (let line = (c .before .before .before .before .before) .args .line .now in pulled line ((c .before .before .before .before .before) .args .op) (c .before .before .identifier .result .next) (c .before .before .identifier .result .value) (c .before .before .identifier .ensures .0) .1 (sym (c .before .is-over .ensures) ∙ not-true _ (c .if1 .taken)), tt)
 
 cast-t9 : tie.Need-cast-t9
 cast-t9 c = search needs
 
 returns-2 : tie.Need-returns-2
-returns-2 c = let line = (c .before .before .before .before .before .before) .args .line .now in pulled line ((c .before .before .before .before .before .before) .args .op) (c .before .before .before .identifier .result .next) (c .before .before .before .identifier .result .value) (c .before .before .before .identifier .ensures .0) .0 (sym (c .before .before .is-over .ensures) ∙ not-false _ (c .before .if1 .left))
+returns-2 c = (let line = (c .before .before .before .before .before .before) .args .line .now in pulled line ((c .before .before .before .before .before .before) .args .op) (c .before .before .before .identifier .result .next) (c .before .before .before .identifier .result .value) (c .before .before .before .identifier .ensures .0) .0 (sym (c .before .before .is-over .ensures) ∙ not-false _ (c .before .if1 .left)), tt)
 
 pub parse-pull-spec : {M : Type 1} → statement M
 parse-pull-spec =
