@@ -1,5 +1,5 @@
 -- A refused call leaves every lent byte as found. One theorem serves each call whose contract says its number by `code` and each lent table by `after`: volume delete, drop,
--- prepare, sync, write a commit, success, open, tag delete and replacement. Recover answers a number beside its tables: 8 apart, its refusals leave every byte too.
+-- prepare, sync, write a commit, success, tag delete, and the volumes of open. Recover answers a number beside its tables: 8 apart, its refusals leave every byte too.
 use Prim.Native.Nat.{ℕ}
 use mathlib.Core.Path.{_≡_, refl, sym, ap, _∙_}
 use mathlib.Core.List.{List, []}
