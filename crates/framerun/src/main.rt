@@ -8,6 +8,7 @@ mod readings;
 mod rounds;
 mod swept;
 
+// Compares part by part, and prints how many comparisons each part made and how many differed.
 fn main() {
     tally::report(b"readings P8 and P9", readings::all());
     tally::report(b"frames at the edges", edges::all());

@@ -12,6 +12,7 @@ pub enum Order {
     Greater,
 }
 
+// A byte as a wider number.
 fn wide(x: u8) -> u32
     ensures { λ r. ⌜ (r ≡ x) × (r < 256) ⌝ }
 {

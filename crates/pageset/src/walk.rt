@@ -37,6 +37,7 @@ pub struct Turn {
     pub rights: usize,
 }
 
+// The next turn of a walk over two sets: the lower of two windows, or both where they stand for the same pages.
 pub fn next_turn(x: Window, y: Window) -> Turn
     ensures { λ r. ⌜ r ≡ turnOf x y ⌝ }
     ensures { λ r. ⌜ (r .lefts ≤ 1) × (r .rights ≤ 1) × (1 ≤ r .lefts + r .rights) ⌝ }

@@ -7,6 +7,7 @@ mod edges;
 mod full;
 mod rounds;
 
+// Compares part by part, and prints how many comparisons each part made and how many differed.
 fn main() {
     tally::report(b"built sets", built::all());
     tally::report(b"ranges from edge to edge", edges::ranges());

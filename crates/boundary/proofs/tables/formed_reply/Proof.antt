@@ -1,3 +1,4 @@
+-- 0 where the table is in form, 20 where it is not: each way out is the definition at the value of the test.
 use mathlib.Core.Path.{sym, ap}
 use Rattle.boundary.specs.Tables.{formedReply}
 use Rattle.boundary.proofs.tables.formed_reply.Statement.{statement}
