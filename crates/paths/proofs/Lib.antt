@@ -1,2 +1,3 @@
 pub mod PathLaws
 pub mod LeftLaws
+pub mod OneMet
