@@ -17,7 +17,7 @@ use Rattle.callline.specs.declared.values.Pages.{Pages}
 use Rattle.callline.specs.declared.values.Pages.the-variants as Pages
 use Rattle.callline.specs.Texts.{Text, piecesAfter, between}
 use Rattle.callline.specs.Values.{Range, malformed, pagesOf}
-use Rattle.callline.specs.Lines.{Call, Open, Snap, Save, Find, Fetch, Pull}
+use Rattle.callline.specs.Lines.{Call, Open, Snap, Save, Find, Fetch, Pull, lastSlot}
 
 abbrev pub numberSays : Number → Answer ℕ
 numberSays Number.Malformed = refused malformed
@@ -83,12 +83,12 @@ lineSays line (Line.Pull v) = done (Pull v)
 abbrev pub InForm : Text → ℕ → ℕ → Type 0
 InForm line from to = (from ≤ to) × (to ≤ length line) × (isDone (pagesOf (between from to line)) ≡ true)
 
--- so they do in every answer that has pages
+-- so they do in every answer that has pages; and a slot is one of 0 to 3
 abbrev pub Placed : Text → Line → Type 0
 Placed line Line.Malformed = Unit {0}
 Placed line (Line.Open v l r) = Unit {0}
-Placed line (Line.Snap v s) = Unit {0}
-Placed line (Line.Save v s c i from to) = InForm line from to
-Placed line (Line.Find s p) = Unit {0}
+Placed line (Line.Snap v s) = s ≤ lastSlot
+Placed line (Line.Save v s c i from to) = (s ≤ lastSlot) × InForm line from to
+Placed line (Line.Find s p) = s ≤ lastSlot
 Placed line (Line.Fetch g n c i from to) = InForm line from to
 Placed line (Line.Pull v) = Unit {0}

@@ -57,7 +57,7 @@ cast-t29 : tie.Need-cast-t29
 cast-t29 c = search needs
 
 returns-2 : tie.Need-returns-2
-returns-2 c = (let line = (c .before .before .before .before .before .before .before .before .before .before .before .before .before .before .before .before .before) .args .line .now in saved line ((c .before .before .before .before .before .before .before .before .before .before .before .before .before .before .before .before .before) .args .op) (c .before .before .before .before .before .before .before .before .before .before .before .before .before .before .identifier .result .next) (c .before .before .before .before .before .before .before .before .before .before .before .before .decimal .result .next) (c .before .before .before .before .before .before .before .before .before .before .decimal2 .result .next) (c .before .before .before .before .before .before .before .before .identifier2 .result .next) (record { good = c .before .before .before .before .before .before .pages .result .good; end = c .before .before .before .before .before .before .pages .result .to }) (c .before .before .before .before .before .before .before .before .before .before .decimal2 .result .value) (c .before .before .before .before .before .before .before .before .identifier2 .result .value) (rangesIn (between (c .before .before .before .before .before .before .pages .result .from) (c .before .before .before .before .before .before .pages .result .to) line)) (c .before .before .before .before .before .before .before .before .before .before .decimal2 .ensures .0) (c .before .before .before .before .before .before .before .before .identifier2 .ensures .0) (c .before .before .before .before .before .before .pages .ensures .0) (c .before .before .before .before .before .before .before .before .before .before .before .before .before .before .identifier .result .value) (c .before .before .before .before .before .before .before .before .before .before .before .before .decimal .result .value) (c .before .before .before .before .before .before .before .before .before .before .before .before .before .before .identifier .ensures .0) (c .before .before .before .before .before .before .before .before .before .before .before .before .decimal .ensures .0) .0 (sym (c .before .before .before .before .before .is-over .ensures) ∙ not-false _ (c .before .before .before .before .if1 .left)), c .before .before .before .before .before .before .pages .ensures .1 (and-fst (c .before .before .before .before .before .before .pages .result .good) _ (sym (c .before .before .before .before .before .is-over .ensures) ∙ not-false _ (c .before .before .before .before .if1 .left))))
+returns-2 c = (let line = (c .before .before .before .before .before .before .before .before .before .before .before .before .before .before .before .before .before) .args .line .now in saved line ((c .before .before .before .before .before .before .before .before .before .before .before .before .before .before .before .before .before) .args .op) (c .before .before .before .before .before .before .before .before .before .before .before .before .before .before .identifier .result .next) (c .before .before .before .before .before .before .before .before .before .before .before .before .decimal .result .next) (c .before .before .before .before .before .before .before .before .before .before .decimal2 .result .next) (c .before .before .before .before .before .before .before .before .identifier2 .result .next) (record { good = c .before .before .before .before .before .before .pages .result .good; end = c .before .before .before .before .before .before .pages .result .to }) (c .before .before .before .before .before .before .before .before .before .before .decimal2 .result .value) (c .before .before .before .before .before .before .before .before .identifier2 .result .value) (rangesIn (between (c .before .before .before .before .before .before .pages .result .from) (c .before .before .before .before .before .before .pages .result .to) line)) (c .before .before .before .before .before .before .before .before .before .before .decimal2 .ensures .0) (c .before .before .before .before .before .before .before .before .identifier2 .ensures .0) (c .before .before .before .before .before .before .pages .ensures .0) (c .before .before .before .before .before .before .before .before .before .before .before .before .before .before .identifier .result .value) (c .before .before .before .before .before .before .before .before .before .before .before .before .decimal .result .value) (c .before .before .before .before .before .before .before .before .before .before .before .before .before .before .identifier .ensures .0) (c .before .before .before .before .before .before .before .before .before .before .before .before .decimal .ensures .0) .0 (sym (c .before .before .before .before .before .is-over .ensures) ∙ not-false _ (c .before .before .before .before .if1 .left)), (c .before .before .before .before .before .before .before .before .before .before .before .before .decimal .ensures .1, c .before .before .before .before .before .before .pages .ensures .1 (and-fst (c .before .before .before .before .before .before .pages .result .good) _ (sym (c .before .before .before .before .before .is-over .ensures) ∙ not-false _ (c .before .before .before .before .if1 .left)))))
 
 pub parse-save-spec : {M : Type 1} → statement M
 parse-save-spec =

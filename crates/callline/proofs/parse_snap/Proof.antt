@@ -31,7 +31,7 @@ cast-t14 : tie.Need-cast-t14
 cast-t14 c = search needs
 
 returns-2 : tie.Need-returns-2
-returns-2 c = (let line = (c .before .before .before .before .before .before .before .before .before) .args .line .now in snapped line ((c .before .before .before .before .before .before .before .before .before) .args .op) (c .before .before .before .before .before .before .identifier .result .next) (c .before .before .before .before .decimal .result .next) (c .before .before .before .before .before .before .identifier .result .value) (c .before .before .before .before .decimal .result .value) (c .before .before .before .before .before .before .identifier .ensures .0) (c .before .before .before .before .decimal .ensures .0) .0 (sym (c .before .before .before .is-over .ensures) ∙ not-false _ (c .before .before .if1 .left)), tt)
+returns-2 c = (let line = (c .before .before .before .before .before .before .before .before .before) .args .line .now in snapped line ((c .before .before .before .before .before .before .before .before .before) .args .op) (c .before .before .before .before .before .before .identifier .result .next) (c .before .before .before .before .decimal .result .next) (c .before .before .before .before .before .before .identifier .result .value) (c .before .before .before .before .decimal .result .value) (c .before .before .before .before .before .before .identifier .ensures .0) (c .before .before .before .before .decimal .ensures .0) .0 (sym (c .before .before .before .is-over .ensures) ∙ not-false _ (c .before .before .if1 .left)), c .before .before .before .before .decimal .ensures .1)
 
 pub parse-snap-spec : {M : Type 1} → statement M
 parse-snap-spec =

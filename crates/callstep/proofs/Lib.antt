@@ -1,0 +1,9 @@
+pub mod Values
+pub mod Fetched
+pub mod Named
+pub mod Fetches
+pub mod Found
+pub mod Snaps
+pub mod Saved
+pub mod StepLaws
+pub mod Kept

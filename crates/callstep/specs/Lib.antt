@@ -1,0 +1,3 @@
+pub mod Testers
+pub mod Steps
+pub mod Says
