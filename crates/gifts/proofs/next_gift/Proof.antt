@@ -43,7 +43,7 @@ returns c =
     ∙ sym (c .before .before .before .before .loop .inv ∙ step-end ((c .before .before .before .before .before .before) .args .commits .now) (placesIn ((c .before .before .before .before .before .before) .args .path .runs)) ((c .before .before .before .before .before .before) .args .count .0) (c .before .before .before .before .loop .k) (sym (c .before .before .before .place-at .ensures) ∙ (c .before .enum-told .given .1)))
 
 gift-of-requires : tie.Need-gift-of-requires Inv-loop μ-loop
-gift-of-requires c κs = ((c .before .before .before .before .before .before) .pre .0, ((c .before .before .before .before .before .before) .pre .1), place-below (countOf ((c .before .before .before .before .before .before) .args .commits .now)) (c .before .before .before .before .loop .k) (c .before .i .given .0 .0) (placesIn ((c .before .before .before .before .before .before) .args .path .runs)) ((c .before .before .before .before .before .before) .pre .1 .below) (sym (c .before .before .before .place-at .ensures) ∙ (c .before .i .given .1)))
+gift-of-requires c κs = ((c .before .before .before .before .before .before) .pre .0, ((c .before .before .before .before .before .before) .pre .1), place-below (countOf ((c .before .before .before .before .before .before) .args .commits .now)) (c .before .before .before .before .loop .k) (c .before .i .given .0 .0) (placesIn ((c .before .before .before .before .before .before) .args .path .runs)) ((c .before .before .before .before .before .before) .pre .1 .below) (sym (c .before .before .before .place-at .ensures) ∙ (c .before .i .given .1)), omega (arith, place-few (c .before .before .before .before .loop .k) (c .before .i .given .0 .0) (placesIn ((c .before .before .before .before .before .before) .args .path .runs)) (sym (c .before .before .before .place-at .ensures) ∙ (c .before .i .given .1))))
 
 add-k : tie.Need-add-k Inv-loop μ-loop
 add-k c = omega (arith, place-few (c .before .before .before .before .before .loop .k) (c .before .before .i .given .0 .0) (placesIn ((c .before .before .before .before .before .before .before) .args .path .runs)) (sym (c .before .before .before .before .place-at .ensures) ∙ (c .before .before .i .given .1)), ((c .before .before .before .before .before .before .before) .pre .1 .few))

@@ -1,0 +1,9 @@
+-- What earlier commits of a path have taken, as the walk looks at it.
+use Prim.Native.Nat.{ℕ, _≤_}
+use mathlib.Core.Path.{_≡_}
+use Rattle.pageset.specs.Sets.{maskAt}
+use Rattle.rules.specs.Records.{Pages}
+
+-- these pages have no window from lo to hi
+abbrev pub Clear : ℕ → ℕ → Pages → Type 0
+Clear lo hi u = (q : ℕ) → lo ≤ q → q ≤ hi → maskAt u q ≡ 0
