@@ -3,4 +3,5 @@ pub mod ApartLaws
 pub mod PathLaws
 pub mod SetLaws
 pub mod StepLaws
+pub mod TakenLaws
 pub mod WalkLaws

@@ -26,13 +26,25 @@ ghost use Rattle.setbytes.specs.Laid.{setLaid};
 ghost use Rattle.commits.specs.Places.{commitAt};
 ghost use Rattle.gifts.specs.Paths.{placesIn, Inside, commitsAt, before};
 ghost use Rattle.gifts.specs.Steps.{stepFrom};
-ghost use Rattle.gifts.specs.Taken.{Clear};
+ghost use Rattle.gifts.specs.Taken.{Clear, noneTaken, Takes, Joined};
 
 // What a step of the walk finds: where the next commit that gets pages stands, the number of the commit after it on the path, and its pages; or none.
 pub struct Step {
     pub at: Place,
     pub next: usize,
     pub gift: PageSet,
+}
+
+// The pages, up to the page count, that the path's first `upto` commits hold.
+pub struct Taken {
+    pub upto: usize,
+    pub set: PageSet,
+}
+
+// A step of the walk, and what is taken after it.
+pub struct Stride {
+    pub step: Step,
+    pub taken: Taken,
 }
 
 // The pages of record i: none where its segment is missing.
@@ -107,13 +119,88 @@ fn not_taken(commits: &[u8], path: Path, from: usize, n: usize, s: PageSet) -> P
     left
 }
 
-// What the commit in record i gets, which is the path's commit of number k.
-fn gift_of(commits: &[u8], path: Path, count: PageCount, k: usize, i: usize) -> PageSet
+// What the commit in record i gets, which is the path's commit of number k: one cut by what is held as taken, and then by each commit after those.
+fn gift_of(
+    commits: &[u8],
+    path: Path,
+    count: PageCount,
+    taken: Taken,
+    k: usize,
+    i: usize,
+) -> PageSet
     requires { ⌜ (commitsOk (now commits) ≡ true) × Inside (now commits) (placesIn (path .runs)) × (i < countOf (now commits)) × (k ≤ length (placesIn (path .runs))) ⌝ }
+    requires { ⌜ Takes (count .0) (commitsAt (now commits) (placesIn (path .runs))) k taken ⌝ }
     ensures { λ r. ⌜ r ≡ setLaid (giftOf (count .0) (before k (commitsAt (now (commits .entry)) (placesIn (path .runs)))) (commitAt (now (commits .entry)) i)) ⌝ }
 {
     let pages = up_to(pages_at(commits, i), count);
-    not_taken(commits, path, 0, k, pages)
+    let held = taken.set;
+    let left = without(pages, held);
+    let from = taken.upto;
+    not_taken(commits, path, from, k - from, left)
+}
+
+// What is taken before the first commit.
+pub fn none_taken() -> Taken
+    ensures { λ r. ⌜ r ≡ noneTaken ⌝ }
+{
+    let set = sets::empty();
+    Taken { upto: 0, set }
+}
+
+// What is taken with the gift of number k, if the pages of all commits before it are held; nothing is added where they then need over 32 windows.
+fn joined(taken: Taken, k: usize, gift: PageSet) -> Taken
+    requires { ⌜ (normal (taken .set) ≡ true) × (normal gift ≡ true) × (k < 524280) ⌝ }
+    ensures { λ r. ⌜ Joined taken k gift r ⌝ }
+{
+    if taken.upto != k {
+        return taken;
+    }
+    let held = taken.set;
+    if gift.len == 0 {
+        return Taken {
+            upto: k + 1,
+            set: held,
+        };
+    }
+    let both = sets::union(held, gift);
+    if both.code != 0 {
+        return taken;
+    }
+    let set = both.set;
+    Taken { upto: k + 1, set }
+}
+
+// The next commit of the path, from number `from` on, that gets pages, with what is taken before it and after it.
+pub fn next_step(commits: &[u8], path: Path, count: PageCount, from: usize, taken: Taken) -> Stride
+    requires { ⌜ (commitsOk (now commits) ≡ true) × Inside (now commits) (placesIn (path .runs)) ⌝ }
+    requires { ⌜ Takes (count .0) (commitsAt (now commits) (placesIn (path .runs))) from taken ⌝ }
+    ensures { λ r. ⌜ r .step ≡ stepFrom (now (commits .entry)) (count .0) (placesIn (path .runs)) from ⌝ }
+    ensures { λ r. ⌜ Takes (count .0) (commitsAt (now (commits .entry)) (placesIn (path .runs))) (r .step .next) (r .taken) ⌝ }
+{
+    let mut k = from;
+    let mut held = taken;
+    loop {
+        let Place::At(i) = place_at(path, k) else {
+            let none = sets::empty();
+            let step = Step {
+                at: Place::Missing,
+                next: k,
+                gift: none,
+            };
+            return Stride { step, taken: held };
+        };
+        let gift = gift_of(commits, path, count, held, k, i);
+        held = joined(held, k, gift);
+        k += 1;
+        if gift.len != 0 {
+            let step = Step {
+                at: Place::At(i),
+                next: k,
+                gift,
+            };
+            return Stride { step, taken: held };
+        }
+    }
 }
 
 // The next commit of the path, from number `from` on, that gets pages.
@@ -121,24 +208,6 @@ pub fn next_gift(commits: &[u8], path: Path, count: PageCount, from: usize) -> S
     requires { ⌜ (commitsOk (now commits) ≡ true) × Inside (now commits) (placesIn (path .runs)) ⌝ }
     ensures { λ r. ⌜ r ≡ stepFrom (now (commits .entry)) (count .0) (placesIn (path .runs)) from ⌝ }
 {
-    let mut k = from;
-    loop {
-        let Place::At(i) = place_at(path, k) else {
-            let none = sets::empty();
-            return Step {
-                at: Place::Missing,
-                next: k,
-                gift: none,
-            };
-        };
-        let gift = gift_of(commits, path, count, k, i);
-        k += 1;
-        if gift.len != 0 {
-            return Step {
-                at: Place::At(i),
-                next: k,
-                gift,
-            };
-        }
-    }
+    let found = next_step(commits, path, count, from, none_taken());
+    found.step
 }

@@ -6,7 +6,8 @@ use commits::commits_formed;
 use commits::lsn_at;
 use commits::row;
 use core::page_count::PageCount;
-use gifts::next_gift;
+use gifts::next_step;
+use gifts::none_taken;
 use gifts::paths::Path;
 use gifts::paths::at_most;
 use gifts::paths::path_of;
@@ -59,14 +60,17 @@ fn count_items(commits: &[u8], path: Path, count: PageCount) -> usize
 {
     let mut k: usize = 0;
     let mut n: usize = 0;
+    let mut taken = none_taken();
     loop {
-        let step = next_gift(commits, path, count, k);
+        let found = next_step(commits, path, count, k, taken);
+        let step = found.step;
         let at = step.at;
         let Place::At(_) = at else {
             return n;
         };
         n += 1;
         k = step.next;
+        taken = found.taken;
     }
 }
 
@@ -90,8 +94,10 @@ fn put_items(commits: &[u8], path: Path, count: PageCount, list: &mut [u8]) -> u
 {
     let mut k: usize = 0;
     let mut n: usize = 0;
+    let mut taken = none_taken();
     loop {
-        let step = next_gift(commits, path, count, k);
+        let found = next_step(commits, path, count, k, taken);
+        let step = found.step;
         let at = step.at;
         let Place::At(i) = at else {
             return n;
@@ -100,6 +106,7 @@ fn put_items(commits: &[u8], path: Path, count: PageCount, list: &mut [u8]) -> u
         put_item(list, n * ITEM, commits, i, gift);
         n += 1;
         k = step.next;
+        taken = found.taken;
     }
 }
 
