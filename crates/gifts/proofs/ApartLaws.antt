@@ -4,12 +4,12 @@ use Prim.Native.Nat.{ℕ, _+_, _-_, _*_, _/_, _%_, _<_, _≤_, min}
 use mathlib.Core.Path.{_≡_, refl, sym, ap, _∙_}
 use mathlib.Core.List.{List, [], _∷_}
 use mathlib.Core.Option.{Option, none, some}
-use mathlib.Core.Bool.{Bool, true, false, not, _&&_}
+use mathlib.Core.Bool.{Bool, true, false, not, _&&_, and-true}
 use native.Mathlib.Omega.{arith}
 use native.Mathlib.Decide.{decLt}
 use borrow.Author.Tests.{leb-true, le-leb, ne-eqb}
 use lib.Dec.{leb}
-use lib.ListN.{length, getD}
+use lib.ListN.{length, getD, take}
 use lib.Seq.{getD-take}
 use Rattle.octets.specs.Bytes.{be, part}
 use Rattle.pageset.specs.declared.Window.{Window}
@@ -23,7 +23,7 @@ use Rattle.rules.specs.Records.{Pages, Segment}
 use Rattle.rules.specs.Pages.{minus}
 use Rattle.rules.specs.Write.{pagesOf}
 use Rattle.rules.proofs.TableLaws.{and-fst, and-snd, and-both, clash}
-use Rattle.rules.proofs.PageLaws.{bit-zero, mask-below, form-rising, holds-minus}
+use Rattle.rules.proofs.PageLaws.{bit-zero, mask-below, form-rising, holds-empty, holds-minus}
 use Rattle.rules.proofs.PageCounts.{minus-normal}
 use Rattle.table.specs.Table.{countOf}
 use Rattle.layout.specs.Values.{windowBytes, setBytes}
@@ -106,6 +106,29 @@ module _ (s : PageSet) (e : normal s ≡ true) (u : Pages) where
       by p (yes l) d = neither (member s p) (holds u p) (none-held (shown s) p (below-first (shown s) (p / 64) (p / 64) ups (rw (getD-take) l) (p / 64) (omega arith) (omega arith)))
       by p (no l) (yes m) = neither (member s p) (holds u p) (none-held (shown s) p (above-last (shown s) (s .len) (p / 64) (p / 64) ups (shown-length s (normal-fact s e .tidy)) (let z : s .len - 1 < s .len = omega arith in rw (getD-take) m) (p / 64) (omega arith) (omega arith)))
       by p (no l) (no m) = nor (member s p) (holds u p) (none-held u p (c (p / 64) (omega arith) (omega arith)))
+
+-- ---- a set below a page count
+
+pub none-low : (s : PageSet) (n : ℕ) → normal s ≡ true → s .len ≡ 0 → IsSet (λ p. member s p && leb p n) s
+none-low s n e z = record { normal = e; pages = λ p. first-not (member s p) (leb p n) (ap (λ (k : ℕ). holds (take k (s .windows)) p) z ∙ holds-empty p) }
+  where
+    first-not : (a b : Bool) → a ≡ false → a ≡ a && b
+    first-not true b h = absurd (clash refl h)
+    first-not false b h = refl
+
+pub all-low : (s : PageSet) (n : ℕ) → normal s ≡ true → 0 < s .len → getD (s .windows) (s .len - 1) zeroWindow .index < n / 64 → IsSet (λ p. member s p && leb p n) s
+all-low s n e h l = record { normal = e; pages = λ p. by p (decLt (getD (s .windows) (s .len - 1) zeroWindow .index) (p / 64)) }
+  where
+    first-not : (a b : Bool) → a ≡ false → a ≡ a && b
+    first-not true b z = absurd (clash refl z)
+    first-not false b z = refl
+
+    by : (p : ℕ) → Dec (getD (s .windows) (s .len - 1) zeroWindow .index < p / 64) → member s p ≡ member s p && leb p n
+    by p (yes m) =
+        first-not (member s p) (leb p n)
+        (none-held (shown s) p
+        (above-last (shown s) (s .len) (p / 64) (p / 64) (form-rising (shown s) (shown-form s e)) (shown-length s (normal-fact s e .tidy)) (let z : s .len - 1 < s .len = omega arith in rw (getD-take) m) (p / 64) (omega arith) (omega arith)))
+    by p (no m) = rw (le-leb p n (omega (arith, m))) (sym (and-true (member s p)))
 
 -- ---- the pages of a commit, as the code reads their first and last window
 

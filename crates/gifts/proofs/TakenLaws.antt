@@ -12,7 +12,7 @@ use lib.ListN.{drop, take}
 use Rattle.pageset.specs.declared.PageSet.{PageSet}
 use Rattle.pageset.specs.Sets.{holds, rising, shown, member, normalForm, normal}
 use Rattle.pageset.specs.declared.SetAnswer.{SetAnswer}
-use Rattle.pageset.specs.Says.{IsSet, GivesOr22}
+use Rattle.pageset.specs.Says.{IsSet, Over32, GivesOr22}
 use Rattle.core.specs.Answers.{done}
 use Rattle.pageset.proofs.ResultLaws.{one-set, set-same}
 use Rattle.rules.specs.Lists.{any}
@@ -88,9 +88,6 @@ joins false true false = refl
 joins false false true = refl
 joins false false false = refl
 
-pub gift-normal : (count : ℕ) (earlier : List Commit) (c : Commit) → normalForm (pagesOf (c .segment)) ≡ true → normalForm (gift count earlier c) ≡ true
-gift-normal count earlier c e = notTaken-normal (truncated (pagesOf (c .segment)) count) earlier (truncated-normal (pagesOf (c .segment)) count e)
-
 module _ (count : ℕ) (cs : List Commit) (k : ℕ) (x : Taken) (h : Takes count cs k x) where
   -- one cut is a cut for each
   pub one-cut : (u : Pages) → normalForm u ≡ true → (a r : PageSet) → shown a ≡ truncated u count → r ≡ setLaid (minus (shown a) (shown (x .set))) → r ≡ setLaid (notTaken (shown a) (before (x .upto) cs))
@@ -141,11 +138,15 @@ module _ (count : ℕ) (cs : List Commit) (k : ℕ) (x : Taken) (h : Takes count
         ∙ joins (any (commitHolds p) (before k cs)) (leb p count) (commitHolds p c)
         ∙ ap (λ (y : Bool). y && leb p count) (sym (one-more p))
 
+    same : (y : Taken) → y ≡ x → Takes count cs (k + 1) y
+    same y q = subst (Takes count cs (k + 1)) (sym q) (record { few = omega (arith, h .few); pages = h .pages })
+
     pub takes-more : (y : Taken) → Joined x k g y → Takes count cs (k + 1) y
-    takes-more y (inl q) = subst (Takes count cs (k + 1)) (sym q) (record { few = omega (arith, h .few); pages = h .pages })
-    takes-more y (inr q) = record {
-      few = omega arith;
-      pages = subst (λ (n : ℕ). IsSet (λ p. any (commitHolds p) (before n cs) && leb p count) (y .set)) (sym (q .1)) (set-same (λ p. member (x .set) p || member g p) (λ p. any (commitHolds p) (before (k + 1) cs) && leb p count) (y .set) (joined-pages (q .0)) (q .2));
+    takes-more y (inl q) = same y (q .1)
+    takes-more y (inr (z, inr q)) = same y (q .0)
+    takes-more y (inr (z, inl q)) = record {
+      few = omega (arith, q .0);
+      pages = subst (λ (n : ℕ). IsSet (λ p. any (commitHolds p) (before n cs) && leb p count) (y .set)) (sym (q .0)) (set-same (λ p. member (x .set) p || member g p) (λ p. any (commitHolds p) (before (k + 1) cs) && leb p count) (y .set) (joined-pages z) (q .1));
     }
 
 -- ---- the set itself
@@ -154,10 +155,14 @@ module _ (count : ℕ) (cs : List Commit) (k : ℕ) (x : Taken) (h : Takes count
 pub joined-none : (s g : PageSet) → normal s ≡ true → g .len ≡ 0 → IsSet (λ p. member s p || member g p) s
 joined-none s g e z = record { normal = e; pages = λ p. sym (ap (λ (l : Pages). member s p || holds l p) (ap (λ (n : ℕ). take n (g .windows)) z) ∙ ap (λ (b : Bool). member s p || b) (holds-empty p) ∙ or-false (member s p)) }
 
--- the answer of a union that is none of over 32 windows
+-- the answer of a union, by its number
 pub union-set : (f : ℕ → Bool) (r : SetAnswer) → GivesOr22 r (done f) → r .code ≡ 0 → IsSet f (r .set)
 union-set f r (inl h) e = h .1
 union-set f r (inr h) e = absurd (let z : r .code ≡ 22 = ap (λ (x : SetAnswer). x .code) (h .0) in omega arith)
+
+pub union-over : (f : ℕ → Bool) (r : SetAnswer) → GivesOr22 r (done f) → (r .code ≡ 0 → ⊥) → Over32 f
+union-over f r (inl h) n = absurd (n (h .0))
+union-over f r (inr h) n = h .1
 
 -- before the first commit nothing is taken
 pub takes-none : (count : ℕ) (cs : List Commit) (k : ℕ) → Takes count cs k noneTaken

@@ -7,7 +7,7 @@ use mathlib.Core.Logic.{_⊎_}
 use lib.Dec.{leb}
 use Rattle.pageset.specs.declared.PageSet.{PageSet}
 use Rattle.pageset.specs.Sets.{maskAt, member}
-use Rattle.pageset.specs.Says.{emptySet, IsSet}
+use Rattle.pageset.specs.Says.{emptySet, IsSet, Over32}
 use Rattle.rules.specs.Lists.{any}
 use Rattle.rules.specs.Records.{Pages, Commit}
 use Rattle.rules.specs.Demand.{commitHolds}
@@ -27,6 +27,8 @@ pub record Takes (count : ℕ) (cs : List Commit) (k : ℕ) (x : Taken) : Type 0
   pub few : x .upto ≤ k
   pub pages : IsSet (λ p. any (commitHolds p) (before (x .upto) cs) && leb p count) (x .set)
 
--- the gift of number k is added where the set is that of the first k commits; or nothing is
+-- the gift of number k is added where the set is that of the first k commits; nothing is where it is not, or where the pages of both need over 32 windows
 abbrev pub Joined : Taken → ℕ → PageSet → Taken → Type 0
-Joined x k g y = (y ≡ x) ⊎ ((x .upto ≡ k) × (y .upto ≡ k + 1) × IsSet (λ p. member (x .set) p || member g p) (y .set))
+Joined x k g y =
+    ((x .upto ≡ k → ⊥) × (y ≡ x))
+    ⊎ ((x .upto ≡ k) × (((y .upto ≡ k + 1) × IsSet (λ p. member (x .set) p || member g p) (y .set)) ⊎ ((y ≡ x) × Over32 (λ p. member (x .set) p || member g p))))

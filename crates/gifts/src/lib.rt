@@ -41,12 +41,6 @@ pub struct Taken {
     pub set: PageSet,
 }
 
-// A step of the walk, and what is taken after it.
-pub struct Stride {
-    pub step: Step,
-    pub taken: Taken,
-}
-
 // The pages of record i: none where its segment is missing.
 fn pages_at(commits: &[u8], i: usize) -> PageSet
     requires { ⌜ (commitsOk (now commits) ≡ true) × (i < countOf (now commits)) ⌝ }
@@ -86,11 +80,19 @@ fn without(a: PageSet, b: PageSet) -> PageSet
     both.left
 }
 
-// The pages of a set up to a page count.
+// The pages of a set up to a page count: all of them where its last window lies below the count's.
 fn up_to(s: PageSet, count: PageCount) -> PageSet
     requires { ⌜ normal s ≡ true ⌝ }
     ensures { λ r. ⌜ r ≡ setLaid (truncated (shown s) (count .0)) ⌝ }
 {
+    let n = s.len;
+    if n == 0 {
+        return s;
+    }
+    let last = s.windows[n - 1];
+    if last.index < count.0 / 64 {
+        return s;
+    }
     sets::truncate(s, count)
 }
 
@@ -120,7 +122,7 @@ fn not_taken(commits: &[u8], path: Path, from: usize, n: usize, s: PageSet) -> P
 }
 
 // What the commit in record i gets, which is the path's commit of number k: one cut by what is held as taken, and then by each commit after those.
-fn gift_of(
+pub fn gift_of(
     commits: &[u8],
     path: Path,
     count: PageCount,
@@ -136,6 +138,9 @@ fn gift_of(
     let held = taken.set;
     let left = without(pages, held);
     let from = taken.upto;
+    if from == k {
+        return left;
+    }
     not_taken(commits, path, from, k - from, left)
 }
 
@@ -148,7 +153,7 @@ pub fn none_taken() -> Taken
 }
 
 // What is taken with the gift of number k, if the pages of all commits before it are held; nothing is added where they then need over 32 windows.
-fn joined(taken: Taken, k: usize, gift: PageSet) -> Taken
+pub fn taken_with(taken: Taken, k: usize, gift: PageSet) -> Taken
     requires { ⌜ (normal (taken .set) ≡ true) × (normal gift ≡ true) × (k < 524280) ⌝ }
     ensures { λ r. ⌜ Joined taken k gift r ⌝ }
 {
@@ -170,44 +175,29 @@ fn joined(taken: Taken, k: usize, gift: PageSet) -> Taken
     Taken { upto: k + 1, set }
 }
 
-// The next commit of the path, from number `from` on, that gets pages, with what is taken before it and after it.
-pub fn next_step(commits: &[u8], path: Path, count: PageCount, from: usize, taken: Taken) -> Stride
-    requires { ⌜ (commitsOk (now commits) ≡ true) × Inside (now commits) (placesIn (path .runs)) ⌝ }
-    requires { ⌜ Takes (count .0) (commitsAt (now commits) (placesIn (path .runs))) from taken ⌝ }
-    ensures { λ r. ⌜ r .step ≡ stepFrom (now (commits .entry)) (count .0) (placesIn (path .runs)) from ⌝ }
-    ensures { λ r. ⌜ Takes (count .0) (commitsAt (now (commits .entry)) (placesIn (path .runs))) (r .step .next) (r .taken) ⌝ }
-{
-    let mut k = from;
-    let mut held = taken;
-    loop {
-        let Place::At(i) = place_at(path, k) else {
-            let none = sets::empty();
-            let step = Step {
-                at: Place::Missing,
-                next: k,
-                gift: none,
-            };
-            return Stride { step, taken: held };
-        };
-        let gift = gift_of(commits, path, count, held, k, i);
-        held = joined(held, k, gift);
-        k += 1;
-        if gift.len != 0 {
-            let step = Step {
-                at: Place::At(i),
-                next: k,
-                gift,
-            };
-            return Stride { step, taken: held };
-        }
-    }
-}
-
 // The next commit of the path, from number `from` on, that gets pages.
 pub fn next_gift(commits: &[u8], path: Path, count: PageCount, from: usize) -> Step
     requires { ⌜ (commitsOk (now commits) ≡ true) × Inside (now commits) (placesIn (path .runs)) ⌝ }
     ensures { λ r. ⌜ r ≡ stepFrom (now (commits .entry)) (count .0) (placesIn (path .runs)) from ⌝ }
 {
-    let found = next_step(commits, path, count, from, none_taken());
-    found.step
+    let mut k = from;
+    loop {
+        let Place::At(i) = place_at(path, k) else {
+            let none = sets::empty();
+            return Step {
+                at: Place::Missing,
+                next: k,
+                gift: none,
+            };
+        };
+        let gift = gift_of(commits, path, count, none_taken(), k, i);
+        k += 1;
+        if gift.len != 0 {
+            return Step {
+                at: Place::At(i),
+                next: k,
+                gift,
+            };
+        }
+    }
 }
