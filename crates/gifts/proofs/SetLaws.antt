@@ -78,7 +78,7 @@ module _ (t : List ℕ) (i at : ℕ) (p : at ≡ 2 + i * 722) where
 
 -- ---- sets by their pages
 
-laid-set : (f : ℕ → Bool) (ws : Pages) → normalForm ws ≡ true → ((p : ℕ) → holds ws p ≡ f p) → IsSet f (setLaid ws)
+pub laid-set : (f : ℕ → Bool) (ws : Pages) → normalForm ws ≡ true → ((p : ℕ) → holds ws p ≡ f p) → IsSet f (setLaid ws)
 laid-set f ws e h = record { normal = laid-normal ws e; pages = λ p. ap (λ (l : Pages). holds l p) (says-laid ws) ∙ h p }
 
 pub without-is : (a b r : PageSet) → normal a ≡ true → IsSet (λ p. member a p && not (member b p)) r → r ≡ setLaid (minus (shown a) (shown b))

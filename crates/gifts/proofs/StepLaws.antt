@@ -55,6 +55,12 @@ place-nth f k i [] e = no-place i e
 place-nth f zero i (p ∷ ps) e = let z : p ≡ i = cc in ap (λ (x : ℕ). some (f x)) z
 place-nth f (suc k) i (p ∷ ps) e = place-nth f k i ps e
 
+-- the place of a number past m is one of those past m
+pub place-later : (m j : ℕ) (ps : List ℕ) → placeAt (m + j) ps ≡ placeAt j (drop m ps)
+place-later zero j ps = let e : 0 + j ≡ j = omega arith in ap (λ (n : ℕ). placeAt n ps) e
+place-later (suc m) j [] = refl
+place-later (suc m) j (p ∷ ps) = let e : suc m + j ≡ suc (m + j) = omega arith in ap (λ (n : ℕ). placeAt n (p ∷ ps)) e ∙ place-later m j ps
+
 pub place-none : (k : ℕ) (ps : List ℕ) → placeAt k ps ≡ Missing → drop k ps ≡ []
 place-none k [] e = go k
   where
@@ -123,6 +129,11 @@ module _ (t ps : List ℕ) where
         g
         ∙ ap₂ (λ (x y : Pages). setLaid (minus x y)) (ap shown e ∙ says-laid (notTaken s (before k (commitsAt t ps)))) (ap shown f ∙ says-laid (pagesOf (commitAt t i .segment)))
         ∙ ap (λ (l : List Commit). setLaid (notTaken s l)) (sym (before-next k i a))
+
+    -- the next commit takes nothing
+    pub left-kept : (i : ℕ) → placeAt k ps ≡ At i → left ≡ setLaid (minus (shown left) (pagesOf (commitAt t i .segment))) → left ≡ setLaid (notTaken s (before (k + 1) (commitsAt t ps)))
+    left-kept i a g =
+        left-next i a (setLaid (pagesOf (commitAt t i .segment))) left refl (g ∙ ap (λ (x : Pages). setLaid (minus (shown left) x)) (sym (says-laid (pagesOf (commitAt t i .segment)))))
 
   -- ---- the step
 

@@ -5,14 +5,17 @@ use commits::Place;
 use commits::has_segment_at;
 use commits::row;
 use core::page_count::PageCount;
+use octets::load32;
 use pageset::PageSet;
 use pageset::sets;
 use paths::Path;
 use paths::place_at;
+use setbytes::count_read;
 use setbytes::set_read;
 ghost use mathlib.Core.Path.{_≡_};
 ghost use mathlib.Core.Bool.{true};
-ghost use Prim.Native.Nat.{_<_};
+ghost use Prim.Native.Nat.{_+_, _<_, _≤_};
+ghost use lib.ListN.{length, drop};
 ghost use Rattle.table.specs.Table.{countOf};
 ghost use Rattle.pageset.specs.Sets.{shown, normal};
 ghost use Rattle.rules.specs.Pages.{minus, truncated};
@@ -23,12 +26,19 @@ ghost use Rattle.setbytes.specs.Laid.{setLaid};
 ghost use Rattle.commits.specs.Places.{commitAt};
 ghost use Rattle.gifts.specs.Paths.{placesIn, Inside, commitsAt, before};
 ghost use Rattle.gifts.specs.Steps.{stepFrom};
+ghost use Rattle.gifts.specs.Taken.{Clear, noneTaken, Takes, Joined};
 
 // What a step of the walk finds: where the next commit that gets pages stands, the number of the commit after it on the path, and its pages; or none.
 pub struct Step {
     pub at: Place,
     pub next: usize,
     pub gift: PageSet,
+}
+
+// The pages, up to the page count, that the path's first `upto` commits hold.
+pub struct Taken {
+    pub upto: usize,
+    pub set: PageSet,
 }
 
 // The pages of record i: none where its segment is missing.
@@ -42,6 +52,25 @@ fn pages_at(commits: &[u8], i: usize) -> PageSet
     set_read(commits, row(commits, i) + 79)
 }
 
+// Whether the pages of record i are seen to have no window from lo to hi, by a look at their first and last window where they stand.
+fn apart(commits: &[u8], i: usize, lo: u32, hi: u32) -> bool
+    requires { ⌜ (commitsOk (now commits) ≡ true) × (i < countOf (now commits)) ⌝ }
+    ensures { λ r. ⌜ (r ≡ true → Clear lo hi (pagesOf (commitAt (now (commits .entry)) i .segment))) ⌝ }
+{
+    if !has_segment_at(commits, i) {
+        return true;
+    }
+    let at = row(commits, i) + 79;
+    let n = count_read(commits, at, 32);
+    if n == 0 {
+        return true;
+    }
+    if hi < load32(commits, at + 1) {
+        return true;
+    }
+    load32(commits, at + 1 + (n - 1) * 12) < lo
+}
+
 // The pages of a that b has not.
 fn without(a: PageSet, b: PageSet) -> PageSet
     requires { ⌜ (normal a ≡ true) × (normal b ≡ true) ⌝ }
@@ -51,41 +80,99 @@ fn without(a: PageSet, b: PageSet) -> PageSet
     both.left
 }
 
-// The pages of a set up to a page count.
+// The pages of a set up to a page count: all of them where its last window lies below the count's.
 fn up_to(s: PageSet, count: PageCount) -> PageSet
     requires { ⌜ normal s ≡ true ⌝ }
     ensures { λ r. ⌜ r ≡ setLaid (truncated (shown s) (count .0)) ⌝ }
 {
+    let n = s.len;
+    if n == 0 {
+        return s;
+    }
+    let last = s.windows[n - 1];
+    if last.index < count.0 / 64 {
+        return s;
+    }
     sets::truncate(s, count)
 }
 
-// The pages of a set that none of the path's first n commits holds.
-fn not_taken(commits: &[u8], path: Path, n: usize, s: PageSet) -> PageSet
-    requires { ⌜ (commitsOk (now commits) ≡ true) × Inside (now commits) (placesIn (path .runs)) × (normal s ≡ true) ⌝ }
-    ensures { λ r. ⌜ r ≡ setLaid (notTaken (shown s) (before n (commitsAt (now (commits .entry)) (placesIn (path .runs))))) ⌝ }
+// The pages of a set that none of n commits of the path holds, from number `from` on. A commit whose windows are seen to lie apart from what is left is passed by.
+fn not_taken(commits: &[u8], path: Path, from: usize, n: usize, s: PageSet) -> PageSet
+    requires { ⌜ (commitsOk (now commits) ≡ true) × Inside (now commits) (placesIn (path .runs)) × (normal s ≡ true) × (from + n ≤ length (placesIn (path .runs))) ⌝ }
+    ensures { λ r. ⌜ r ≡ setLaid (notTaken (shown s) (before n (commitsAt (now (commits .entry)) (drop from (placesIn (path .runs)))))) ⌝ }
 {
     let mut left = s;
     let mut k: usize = 0;
     while k < n {
-        if left.len == 0 {
+        let len = left.len;
+        if len == 0 {
             return left;
         }
-        let Place::At(i) = place_at(path, k) else {
+        let Place::At(i) = place_at(path, from + k) else {
             return left;
         };
-        left = without(left, pages_at(commits, i));
         k += 1;
+        let first = left.windows[0];
+        let last = left.windows[len - 1];
+        if !apart(commits, i, first.index, last.index) {
+            left = without(left, pages_at(commits, i));
+        }
     }
     left
 }
 
-// What the commit in record i gets, which is the path's commit of number k.
-fn gift_of(commits: &[u8], path: Path, count: PageCount, k: usize, i: usize) -> PageSet
-    requires { ⌜ (commitsOk (now commits) ≡ true) × Inside (now commits) (placesIn (path .runs)) × (i < countOf (now commits)) ⌝ }
+// What the commit in record i gets, which is the path's commit of number k: one cut by what is held as taken, and then by each commit after those.
+pub fn gift_of(
+    commits: &[u8],
+    path: Path,
+    count: PageCount,
+    taken: Taken,
+    k: usize,
+    i: usize,
+) -> PageSet
+    requires { ⌜ (commitsOk (now commits) ≡ true) × Inside (now commits) (placesIn (path .runs)) × (i < countOf (now commits)) × (k ≤ length (placesIn (path .runs))) ⌝ }
+    requires { ⌜ Takes (count .0) (commitsAt (now commits) (placesIn (path .runs))) k taken ⌝ }
     ensures { λ r. ⌜ r ≡ setLaid (giftOf (count .0) (before k (commitsAt (now (commits .entry)) (placesIn (path .runs)))) (commitAt (now (commits .entry)) i)) ⌝ }
 {
     let pages = up_to(pages_at(commits, i), count);
-    not_taken(commits, path, k, pages)
+    let held = taken.set;
+    let left = without(pages, held);
+    let from = taken.upto;
+    if from == k {
+        return left;
+    }
+    not_taken(commits, path, from, k - from, left)
+}
+
+// What is taken before the first commit.
+pub fn none_taken() -> Taken
+    ensures { λ r. ⌜ r ≡ noneTaken ⌝ }
+{
+    let set = sets::empty();
+    Taken { upto: 0, set }
+}
+
+// What is taken with the gift of number k, if the pages of all commits before it are held; nothing is added where they then need over 32 windows.
+pub fn taken_with(taken: Taken, k: usize, gift: PageSet) -> Taken
+    requires { ⌜ (normal (taken .set) ≡ true) × (normal gift ≡ true) × (k < 524280) ⌝ }
+    ensures { λ r. ⌜ Joined taken k gift r ⌝ }
+{
+    if taken.upto != k {
+        return taken;
+    }
+    let held = taken.set;
+    if gift.len == 0 {
+        return Taken {
+            upto: k + 1,
+            set: held,
+        };
+    }
+    let both = sets::union(held, gift);
+    if both.code != 0 {
+        return taken;
+    }
+    let set = both.set;
+    Taken { upto: k + 1, set }
 }
 
 // The next commit of the path, from number `from` on, that gets pages.
@@ -103,7 +190,7 @@ pub fn next_gift(commits: &[u8], path: Path, count: PageCount, from: usize) -> S
                 gift: none,
             };
         };
-        let gift = gift_of(commits, path, count, k, i);
+        let gift = gift_of(commits, path, count, none_taken(), k, i);
         k += 1;
         if gift.len != 0 {
             return Step {
