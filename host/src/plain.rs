@@ -214,3 +214,13 @@ pub fn format() -> u32 {
 pub fn record_size(table: u32) -> u32 {
     unsafe { raw::sigatuda_record_size(table) }
 }
+
+/// The bytes of an entry of list 0 to 6 (volumes, tags, stored LSNs, commits of a snapshot, frames of a segment, walk, missing frames), 0 for any other.
+pub fn entry_size(list: u32) -> u32 {
+    unsafe { raw::sigatuda_entry_size(list) }
+}
+
+/// The bytes of table 0 to 5 with room for so many records, 0 for any other table and for more than 65,535 records. A fresh table is so many zeros.
+pub fn table_bytes(table: u32, records: u32) -> u32 {
+    unsafe { raw::sigatuda_table_bytes(table, records) }
+}

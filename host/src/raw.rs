@@ -110,4 +110,6 @@ unsafe extern "C" {
     // the integrator
     pub(crate) fn sigatuda_format() -> u32;
     pub(crate) fn sigatuda_record_size(table: u32) -> u32;
+    pub(crate) fn sigatuda_entry_size(list: u32) -> u32;
+    pub(crate) fn sigatuda_table_bytes(table: u32, records: u32) -> u32;
 }

@@ -1,27 +1,8 @@
 //! The calls over tables, by types: document 01's bench readings and its example, each number once where a caller meets it, and what stays.
+mod few;
+
+use few::*;
 use sigatuda::*;
-
-fn page(n: u32) -> PageIdx {
-    PageIdx::new(n).unwrap()
-}
-
-fn lsn(n: u64) -> Lsn {
-    Lsn::new(n).unwrap()
-}
-
-fn pages(of: &[u32]) -> PageSet {
-    PageSet::of(of.iter().map(|&n| page(n))).unwrap()
-}
-
-const fn id(n: u8) -> [u8; 16] {
-    let mut id = [0; 16];
-    id[15] = n;
-    id
-}
-
-const VID: VolumeId = VolumeId(id(1));
-const LOCAL: LogId = LogId(id(10));
-const REMOTE: LogId = LogId(id(11));
 
 /// The capacities of document 01's call list program.
 fn books() -> OwnedTables {

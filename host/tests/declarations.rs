@@ -120,5 +120,5 @@ fn signatures_are_read_and_crossed() {
                 log: *mut [u8; 16], out: *mut u8, out_len: usize) -> Reply; pub(crate) fn sigatuda_none() -> u32;";
     assert_eq!(exported(rattle), functions(rust, "pub(crate) fn "));
     assert_ne!(exported(&rattle.replace("page: u32", "page: u64")), functions(rust, "pub(crate) fn "));
-    assert_eq!(declared().len(), 72);
+    assert_eq!(declared().len(), 74);
 }

@@ -1,32 +1,16 @@
 //! `desk` on real files: what it says of tables in form and of damaged ones, of records, of where a volume stands and of its pages; and that no
 //! input stops it with a panic.
+mod few;
 #[allow(dead_code)]
 mod judge;
 
+use few::*;
 use judge::make::{self, Random};
 use judge::{Kind, TABLES, damage};
 use sigatuda::*;
 use std::ffi::OsStr;
 use std::path::PathBuf;
 use std::process::Command;
-
-const fn id(n: u8) -> [u8; 16] {
-    let mut id = [0; 16];
-    id[15] = n;
-    id
-}
-
-const VID: VolumeId = VolumeId(id(1));
-const LOCAL: LogId = LogId(id(10));
-const REMOTE: LogId = LogId(id(11));
-
-fn lsn(n: u64) -> Lsn {
-    Lsn::new(n).unwrap()
-}
-
-fn page(n: u32) -> PageIdx {
-    PageIdx::new(n).unwrap()
-}
 
 /// A folder of its own for a test, gone with it.
 struct Folder(PathBuf);
@@ -76,8 +60,7 @@ fn books(sync: Option<SyncPoint>) -> OwnedTables {
 
 /// A commit of some pages.
 fn commit(log: LogId, at: u64, of: &[u32]) -> Commit {
-    let pages = PageSet::of(of.iter().map(|&n| page(n))).unwrap();
-    let segment = Segment { sid: SegmentId(id(0x50 + at as u8)), pages, frames: List::new() };
+    let segment = Segment { sid: SegmentId(id(0x50 + at as u8)), pages: pages(of), frames: List::new() };
     Commit { log, lsn: lsn(at), count: PageCount(70), hash: None, segment: Some(segment), checkpoints: List::new() }
 }
 

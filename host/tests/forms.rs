@@ -162,3 +162,28 @@ fn record_sizes_are_the_archives() {
     assert_eq!((plain::record_size(6), plain::record_size(u32::MAX)), (0, 0));
     assert_eq!(plain::format(), 1);
 }
+
+#[test]
+fn entry_sizes_are_the_archives() {
+    let sizes = [Volume::SIZE, Tag::SIZE, 8, Commit::SIZE, SegmentRange::SIZE, WalkItem::SIZE, SegmentRange::SIZE];
+    for (list, size) in sizes.into_iter().enumerate() {
+        assert_eq!(plain::entry_size(list as u32), size as u32, "list {list}");
+    }
+    assert_eq!((plain::entry_size(7), plain::entry_size(u32::MAX)), (0, 0));
+}
+
+#[test]
+fn a_fresh_table_is_so_many_zeros() {
+    for (table, kind) in TABLES.iter().enumerate() {
+        let bytes = |records| plain::table_bytes(table as u32, records) as usize;
+        for records in [0, 1, 32, 65_535] {
+            assert_eq!(bytes(records), 2 + records as usize * kind.record, "{}", kind.name);
+            assert!(kind.formed(&vec![0; bytes(records)]), "{}", kind.name);
+        }
+        assert_eq!((bytes(65_536), bytes(u32::MAX)), (0, 0));
+    }
+    assert_eq!((plain::table_bytes(6, 1), plain::table_bytes(u32::MAX, 0)), (0, 0));
+    let mut presence = vec![0; plain::table_bytes(5, 2) as usize];
+    let marks = [1, 2, 3].map(|page| plain::page_mark(&mut presence, &[9; 16], page).code);
+    assert_eq!(marks, [0, 0, 19], "room for two");
+}

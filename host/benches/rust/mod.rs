@@ -84,8 +84,9 @@ pub fn formed(bytes: &[u8], size: usize, key: usize, form: impl Fn(&[u8]) -> boo
     true
 }
 
+/// Whether all bytes are zero: without an early end, which makes it fast.
 pub fn zeros(b: &[u8]) -> bool {
-    b.iter().all(|&x| x == 0)
+    b.iter().fold(0, |any, &x| any | x) == 0
 }
 
 pub fn set_form(b: &[u8]) -> bool {
@@ -222,7 +223,7 @@ pub fn remove(bytes: &mut [u8], size: usize, key: &[u8]) {
 }
 
 /// The pages of a set's form, from the last down.
-fn pages_down(set: &[u8]) -> impl Iterator<Item = u32> {
+pub fn pages_down(set: &[u8]) -> impl Iterator<Item = u32> {
     let windows = set[1..1 + 12 * usize::from(set[0])].chunks_exact(12).rev();
     windows.flat_map(|w| {
         let (index, mut mask) = (be32(&w[..4]), be64(&w[4..]));
@@ -245,9 +246,11 @@ fn entry_of(log: &[u8], page: u32, lsn: &[u8]) -> [u8; 29] {
 /// Writes a commit: the checks, the room of all three tables, then one merge from the back into the index, each held entry moved at most once.
 pub fn write_commit(commits: &mut [u8], checkpoints: &mut [u8], index: &mut [u8], commit: &[u8]) -> bool {
     let formed = formed(commits, 722, 25, commit_form) && formed(checkpoints, 25, 25, checkpoint_form) && formed(index, 29, 29, index_form);
-    if !formed || commit.len() != 722 || !commit_form(commit) {
-        return false;
-    }
+    formed && commit.len() == 722 && commit_form(commit) && write_formed(commits, checkpoints, index, commit)
+}
+
+/// The same, where all is in form.
+pub fn write_formed(commits: &mut [u8], checkpoints: &mut [u8], index: &mut [u8], commit: &[u8]) -> bool {
     let (log, lsn, set) = (&commit[1..17], &commit[17..25], &commit[79..464]);
     let count = held(index, 29).0;
     let mut new = 0;
@@ -303,10 +306,20 @@ fn place_below(index: &[u8], high: usize, key: &[u8; 29]) -> Result<usize, usize
     Err(low)
 }
 
-/// Nanoseconds of the best round of two stores, made in turn; before each the tables are put back, outside of the time.
-pub fn race_stores<T: Clone>(fresh: &T, mut ours: impl FnMut(&mut T) -> bool, mut rust: impl FnMut(&mut T) -> bool) -> (f64, f64) {
+/// Nanoseconds of the best of 400 rounds of two stores, made in turn; before each the tables are put back, outside of the time.
+pub fn race_stores<T: Clone>(fresh: &T, ours: impl FnMut(&mut T) -> bool, rust: impl FnMut(&mut T) -> bool) -> (f64, f64) {
+    race_rounds(400, fresh, ours, rust)
+}
+
+/// The same, of so many rounds.
+pub fn race_rounds<T: Clone>(
+    rounds: usize,
+    fresh: &T,
+    mut ours: impl FnMut(&mut T) -> bool,
+    mut rust: impl FnMut(&mut T) -> bool,
+) -> (f64, f64) {
     let (mut a, mut b, mut tables) = (f64::MAX, f64::MAX, fresh.clone());
-    for _ in 0..400 {
+    for _ in 0..rounds {
         tables.clone_from(fresh);
         let start = Instant::now();
         assert!(black_box(ours(&mut tables)));

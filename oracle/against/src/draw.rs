@@ -10,6 +10,9 @@ use harness::forms;
 use harness::random::Random;
 use sigatuda::Volume;
 
+mod rich;
+pub use rich::Rich;
+
 const PAGES: [u32; 16] = [1, 2, 3, 4, 5, 6, 7, 8, 63, 64, 65, 127, 128, 200, u32::MAX - 1, u32::MAX];
 
 /// The draw of a history: its numbers, the snapshots that were seen, and a counter for identifiers that are in use nowhere.
@@ -18,11 +21,12 @@ pub struct Draw {
     damage: make::Random,
     snapshots: Vec<Vec<u8>>,
     fresh: u64,
+    rich: Rich,
 }
 
 impl Draw {
-    pub fn new(seed: u64) -> Self {
-        Draw { r: Random::new(seed), damage: make::Random::new(seed), snapshots: vec![], fresh: 0 }
+    pub fn new(seed: u64, rich: Rich) -> Self {
+        Draw { r: Random::new(seed), damage: make::Random::new(seed), snapshots: vec![], fresh: 0, rich }
     }
 
     /// An identifier of few.
@@ -34,9 +38,11 @@ impl Draw {
 
     /// An identifier that nothing has, mostly, or one of few.
     fn spare(&mut self, n: u64) -> Id {
-        if self.r.one_in(4) {
-            return self.few(n);
-        }
+        if self.r.one_in(4) { self.few(n) } else { self.fresh() }
+    }
+
+    /// An identifier that nothing has.
+    fn fresh(&mut self) -> Id {
         self.fresh += 1;
         let mut id = [0xf0; 16];
         id[8..].copy_from_slice(&self.fresh.to_be_bytes());
@@ -199,6 +205,7 @@ impl Draw {
             let (sid, page) = (core::SegmentId::new(self.few(6)), core::PageIdx::try_new(self.page()).unwrap());
             storage.write_page(sid, page, Page::EMPTY).expect("stored");
         }
+        self.start_rich(storage);
     }
 
     fn volume(&mut self) -> volume::Volume {
@@ -212,16 +219,16 @@ impl Draw {
 
     /// Room for so many more records in each table: ample, or hardly any in some.
     pub fn room(&mut self) -> [usize; 6] {
+        if self.rich != Rich::Mixed {
+            return self.room_rich();
+        }
         let tight = self.r.one_in(3);
         [12, 6, 60, 80, 2000, 800].map(|ample| if tight && self.r.one_in(3) { self.r.below(9) as usize } else { ample })
     }
 
     /// A call with its arguments.
     pub fn call(&mut self, both: &Both) -> (Op, Args) {
-        let op = match self.r.below(3) {
-            0 => self.r.pick(&[Op::WriteCommit, Op::Save, Op::Open, Op::Prepare, Op::Success, Op::Recover, Op::Sync]),
-            _ => self.r.pick(Op::ALL),
-        };
+        let op = self.op();
         // volumes are not to run out
         let op = if op == Op::VolumeDelete && !self.r.one_in(4) { Op::VolumeExists } else { op };
         let mut args = self.args(op, both);
@@ -230,6 +237,7 @@ impl Draw {
             Op::Success => self.aim_success(&mut args, both),
             _ => {}
         }
+        let op = self.aim(op, &mut args, both);
         (op, args)
     }
 

@@ -2,11 +2,11 @@
 //! records; and room (19), by the same call on tables with room to spare.
 use crate::calls::{self, Args, Id, Op, Six};
 use crate::judge;
-use crate::tables::read;
+use crate::tables::{read, records};
 use graft::core::VolumeId;
 use graft::local::fjall_storage::FjallStorage;
 use harness::forms;
-use sigatuda::{Commit, PresentPage, Volume};
+use sigatuda::{PresentPage, Volume};
 
 fn zero(n: u64) -> u32 {
     u32::from(n == 0)
@@ -43,9 +43,9 @@ pub fn by_arguments(op: Op, a: &Args) -> u32 {
 /// The number, where a call that the original would do is 5 or a number before it; document 01's order decides.
 pub fn by_identifiers(op: Op, a: &Args, tables: &Six, storage: &FjallStorage) -> Option<u32> {
     let volumes = || read::<Volume>(&tables[0]);
-    let commits = || read::<Commit>(&tables[2]);
+    let commits = || records(&tables[2], 722);
     let stored = |vid: Id| volumes().any(|v| v.vid.0 == vid);
-    let has_commits = |log: Id| commits().any(|c| c.log.0 == log);
+    let has_commits = |log: Id| commits().any(|c| c[1..17] == log);
     let in_use = match op {
         Op::Open => {
             let asked = a.flags.map(|f| f != 0);
@@ -57,10 +57,10 @@ pub fn by_identifiers(op: Op, a: &Args, tables: &Six, storage: &FjallStorage) ->
             (!asked[0] && stored(stands[0])) || (1..3).any(|i| !asked[i] && (named(stands[i]) || stands[i] == stands[3 - i]))
         }
         Op::Save => {
-            let of_commit = commits().any(|c| c.segment.is_some_and(|s| s.sid.0 == a.sid));
+            let of_commit = commits().any(|c| c[62] == 1 && c[63..79] == a.sid);
             of_commit || read::<PresentPage>(&tables[5]).any(|p| p.sid.0 == a.sid)
         }
-        Op::FromLogref if !commits().any(|c| c.log.0 == a.log && c.lsn.get() == a.lsn) => return None,
+        Op::FromLogref if !commits().any(|c| c[1..17] == a.log && c[17..25] == (!a.lsn).to_be_bytes()) => return None,
         Op::FromSnapshot | Op::FromLogref => {
             let [vid, local, remote] = a.spares;
             stored(vid) || has_commits(local) || has_commits(remote) || local == remote
@@ -86,13 +86,17 @@ pub fn by_identifiers(op: Op, a: &Args, tables: &Six, storage: &FjallStorage) ->
 
 /// Whether a call has to be 19: with room to spare it is done, and some table then holds more than its room.
 pub fn lacks_room(op: Op, a: &Args, tables: &Six) -> bool {
-    let mut wide = tables.clone();
-    for (bytes, kind) in wide.iter_mut().zip(judge::TABLES) {
-        let spare = if kind.record > 100 { 400 } else { 20_000 };
-        bytes.resize(bytes.len() + spare * kind.record, 0);
-    }
-    let reply = calls::run(op, a, &mut wide).reply;
     let room = |bytes: &[u8], record: usize| (bytes.len() - 2) / record;
     let held = |bytes: &[u8]| usize::from(u16::from_be_bytes([bytes[0], bytes[1]]));
-    reply.code == 0 && (0..6).any(|i| held(&wide[i]) > room(&tables[i], judge::TABLES[i].record))
+    for more in [1, 20] {
+        let mut wide = tables.clone();
+        for ((bytes, kind), spare) in wide.iter_mut().zip(judge::TABLES).zip([10, 10, 20, 60, 1000, 200]) {
+            bytes.resize(bytes.len() + more * spare * kind.record, 0);
+        }
+        let reply = calls::run(op, a, &mut wide).reply;
+        if reply.code != 19 {
+            return reply.code == 0 && (0..6).any(|i| held(&wide[i]) > room(&tables[i], judge::TABLES[i].record));
+        }
+    }
+    false
 }

@@ -3,7 +3,7 @@
 //! ahead of their log), with room to spare or hardly any.
 use crate::asked;
 use crate::calls::{self, Answer, Args, BEFORE, ITEMS_BEFORE, Op};
-use crate::draw::Draw;
+use crate::draw::{Draw, Rich};
 use crate::earned;
 use crate::tables::Both;
 use crate::tally::Tally;
@@ -14,8 +14,8 @@ use sigatuda::Reply;
 const LENGTH: u64 = 80;
 
 /// `n` calls.
-pub fn compare(n: u64, seed: u64, tally: &mut Tally) {
-    let mut draw = Draw::new(seed);
+pub fn compare(n: u64, seed: u64, rich: Rich, tally: &mut Tally) {
+    let mut draw = Draw::new(seed, rich);
     for _ in 0..n.div_ceil(LENGTH) {
         let original = FjallStorage::open_temporary().expect("storage in memory");
         draw.start(&original);

@@ -70,10 +70,15 @@ fn laid<R: Record>(records: impl Iterator<Item = R>) -> Vec<u8> {
     bytes
 }
 
+/// The bytes of a table's records.
+pub fn records(bytes: &[u8], size: usize) -> std::iter::Take<std::slice::ChunksExact<'_, u8>> {
+    let held = usize::from(u16::from_be_bytes([bytes[0], bytes[1]]));
+    bytes[2..].chunks_exact(size).take(held)
+}
+
 /// The records of a table in form.
 pub fn read<R: Record>(bytes: &[u8]) -> impl Iterator<Item = R> {
-    let held = usize::from(u16::from_be_bytes([bytes[0], bytes[1]]));
-    bytes[2..].chunks_exact(R::SIZE).take(held).map(|record| R::read(record).expect("in form"))
+    records(bytes, R::SIZE).map(|record| R::read(record).expect("in form"))
 }
 
 fn lsn_of(lsn: lsn::LSN) -> Lsn {
