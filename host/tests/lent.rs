@@ -1,6 +1,6 @@
 //! Every call over tables, on good, damaged, cut and random tables with good and damaged arguments: its number is document 01's, by the judge of byte
 //! forms (20 first, then what the arguments earn) or one that its row allows; a refused call leaves every lent byte as it was; a call that is
-//! done leaves tables in form. Calls use at most 8 KiB of stack, but for three.
+//! done leaves tables in form. Calls use at most 8 KiB of stack, but for one.
 #[allow(dead_code)] // ranges of segments are judged in forms.rs
 mod judge;
 mod rows;
@@ -14,15 +14,13 @@ use stack::Stack;
 /// Rounds of each call.
 const ROUNDS: usize = 900;
 
-/// The most bytes of stack that a call may use: 8 KiB. Save and volume from snapshot are a little above it, and missing frames holds a frame list, which is a value.
+/// The most bytes of stack that a call may use: 8 KiB. Volume from snapshot is a little above it.
 const DEEPEST: usize = 8 * 1024;
-const DEEPEST_SAVE: usize = 9 * 1024;
-const DEEPEST_MISSING_FRAMES: usize = 60 * 1024;
+const DEEPEST_COPY: usize = 9 * 1024;
 
 fn deepest_of(name: &str) -> usize {
     match name {
-        "save" | "volume_from_snapshot" => DEEPEST_SAVE,
-        "missing_frames" => DEEPEST_MISSING_FRAMES,
+        "volume_from_snapshot" => DEEPEST_COPY,
         _ => DEEPEST,
     }
 }

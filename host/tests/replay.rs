@@ -34,7 +34,7 @@ fn the_originals_answers() {
     println!("{records} records equal");
 }
 
-/// The most bytes of stack that a call uses: 8 KiB, and 50 for a frame list, whose sixteen ranges are one value.
+/// Every call uses at most 8 KiB of stack.
 #[test]
 fn the_depth_of_each_call() {
     let mut rest = &include_bytes!("../../crates/replay/data/sample.bin")[..];
@@ -46,8 +46,7 @@ fn the_depth_of_each_call() {
         *most = depth.max(*most);
     }
     for (op, depth) in deepest {
-        let lists = op == ops::FRAME_LIST || op == ops::FRAME_LIST_OF_4;
         println!("{:24}{depth:6} bytes of stack", ops::name(op));
-        assert!(depth <= if lists { 50 * 1024 } else { 8 * 1024 }, "{}: {depth}", ops::name(op));
+        assert!(depth <= 8 * 1024, "{}: {depth}", ops::name(op));
     }
 }

@@ -3,10 +3,9 @@ use arguments::Reply;
 use core::pageidx::PageIdx;
 use frames::BytesAnswer;
 use frames::frame_for;
-use frames::frame_list;
 use frames::frame_place;
 use ranges::join;
-use segmentargs::lists::put_list;
+use segmentargs::lists::frame_list;
 use segmentargs::put_range;
 use segmentargs::range_arg;
 use segmentargs::segment_arg;
@@ -23,7 +22,7 @@ ghost use Rattle.segmentargs.specs.Segments.{segmentArg, rangeArg, rangeLeft, j
 pub extern "C" fn sigatuda_frame_list(segment: &[u8], list: &mut [u8], items: &mut u32) -> Reply
     ensures { λ r. ⌜ (r, (now (list .exit), now (items .exit))) ≡ listLeft entryForm (now (list .entry)) (now (items .entry)) (roomed entryForm (now (list .entry)) (listRule (segmentArg (now (segment .entry))))) ⌝ }
 {
-    put_list(frame_list(segment_arg(segment)), list, items)
+    frame_list(segment, list, items)
 }
 
 // The frame of a page, or nothing: 1, 3.

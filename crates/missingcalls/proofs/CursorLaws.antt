@@ -1,21 +1,21 @@
 -- A listing, step by step. What is left at a cursor is what is left of the record that is listed, then the missing frames of the items from the next number on; an item's own are
 -- those of its segment by its gift. A step finds the first of what is left. Assumes nothing.
-use Prim.Native.Nat.{ℕ, suc, _+_, _-_, _*_, _<_, _≤_}
+use Prim.Native.Nat.{ℕ, _+_, _*_, _<_, _≤_}
 use mathlib.Core.Path.{_≡_, refl, sym, ap, _∙_, subst}
 use mathlib.Core.List.{List, [], _∷_, _++_}
 use mathlib.Core.Option.{Option, none, some}
 use mathlib.Core.Bool.{Bool, true, false}
 use native.Mathlib.Omega.{arith}
-use borrow.Author.Tests.{leb-true, leb-false, le-leb, lt-leb}
+use borrow.Author.Tests.{leb-true}
 use lib.Dec.{leb}
 use lib.ListN.{length, length-append}
 use Rattle.pageset.specs.Sets.{shown, normal}
 use Rattle.rules.specs.Lists.{those, given}
 use Rattle.rules.specs.Records as R
 use Rattle.rules.specs.Pages.{isEmpty}
-use Rattle.rules.specs.Forms.{startPage, segmentForm, listsForm, framesForm, commitForm}
+use Rattle.rules.specs.Forms.{segmentForm, listsForm, framesForm, commitForm}
 use Rattle.rules.specs.Tables.{Table}
-use Rattle.rules.specs.Frames.{Part, partsFrom, partsOf}
+use Rattle.rules.specs.Frames.{Part, partsOf}
 use Rattle.rules.specs.Walk.{Item, gift, itemOf, walkFrom, isMissing, missingOf}
 use Rattle.rules.proofs.TableLaws.{cases, and-fst, and-snd}
 use Rattle.table.specs.Table.{countOf}
@@ -28,6 +28,7 @@ use Rattle.commits.specs.Places.{commitAt}
 use Rattle.commits.specs.declared.Place.{Place}
 use Rattle.commits.specs.declared.Place.the-variants.{At, Missing}
 use Rattle.arguments.proofs.SetLaws.{empty-normal}
+use Rattle.segmentargs.proofs.ListLaws.{parts-long}
 use Rattle.gifts.specs.Paths.{Below, Inside, commitsAt}
 use Rattle.gifts.specs.Steps.{itemsFrom}
 use Rattle.gifts.specs.declared.Step.{Step as Gift}
@@ -128,7 +129,7 @@ module _ (t : List ℕ) (ps : Table R.Present) (count : ℕ) (places : List ℕ)
   -- ---- the items of the path
 
   module _ (ok : commitsOk t ≡ true) (inside : Inside t places) (k : ℕ) (s : Gift) (i : ℕ) (h : Stepped t places ok inside count k s i) where
-    item-left : later k ≡ framesLeft ps (shown (s .gift)) (framesAt t i) 0 ++ later (s .next)
+    pub item-left : missingOf ps (itemsFrom t count places k) ≡ framesLeft ps (shown (s .gift)) (framesAt t i) 0 ++ later (s .next)
     item-left = ap (missingOf ps) (h .items)
 
     -- the item has none
@@ -143,19 +144,6 @@ module _ (t : List ℕ) (ps : Table R.Present) (count : ℕ) (places : List ℕ)
         → NextMissing t ps count places all (record { found = true; range = f .range; rest = record { at = At i; gift = s .gift; frame = f .frame; next = s .next } })
     item-here all e f m y = tells i (record { at = At i; gift = s .gift; frame = 0; next = s .next }) item-sound (h .normal) f m y all (e ∙ item-left)
 
-  -- ---- room
-
-  module _ (all : List Part) (x : Part) (rest : List Part) (left : ℕ) (e : all ≡ x ∷ rest) where
-    pub no-place-left : left ≡ 0 → leb (length all) left ≡ false
-    no-place-left z = lt-leb (length all) left (omega (arith, ap length e))
-
-    pub one-less : (left ≡ 0 → ⊥) → leb (length all) left ≡ leb (length rest) (left - 1)
-    one-less z =
-        let l = ap length e in
-        cases (leb (length rest) (left - 1))
-        (λ q. le-leb (length all) left (omega (arith, z, leb-true (length rest) (left - 1) q)) ∙ sym q)
-        (λ q. lt-leb (length all) left (omega (arith, z, leb-false (length rest) (left - 1) q)) ∙ sym q)
-
 -- ---- how many there are at most: 16 for each commit
 
 those-few : {A : Type 0} (f : A → Bool) (l : List A) → length (those f l) ≤ length l
@@ -163,15 +151,11 @@ unfolding those
 those-few f [] = omega arith
 those-few f (x ∷ l) = let r = those-few f l in cases (f x) (λ e. rw e (omega arith)) (λ e. rw e (omega arith))
 
-parts-long : (s : R.Segment) (byte page : ℕ) (fs : List R.Frame) → length (partsFrom s byte page fs) ≡ length fs
-parts-long s byte page [] = refl
-parts-long s byte page (f ∷ fs) = ap suc (parts-long s (byte + f .size) (f .last + 1) fs)
-
 parts-few : (s : R.Segment) → segmentForm s ≡ true → length (partsOf s) ≤ 16
-unfolding partsOf segmentForm listsForm framesForm
+unfolding segmentForm listsForm framesForm
 parts-few s e =
     let q : leb (length (s .frames)) 16 ≡ true = search (and-fst, and-snd) in
-    omega (arith, parts-long s 0 (startPage (s .pages)) (s .frames), leb-true (length (s .frames)) 16 q)
+    omega (arith, parts-long s, leb-true (length (s .frames)) 16 q)
 
 item-few : (ps : Table R.Present) (c : R.Commit) (o : Option R.Segment) (g : R.Pages) (l : List Item) → given segmentForm o ≡ true → length (missingOf ps (itemOf c o g ++ l)) ≤ 16 + length (missingOf ps l)
 item-few ps c none g l h = omega arith

@@ -1,15 +1,14 @@
-// Missing frames: those that meet a gift of the walk and whose set's first page is not present. `next_missing` yields one after another and stores nothing; the call counts by it, then puts.
+// Missing frames: those that meet a gift of the walk and whose set's first page is not present. `next_missing` yields one after another and stores nothing; the call goes over the items
+// and, of each, over the frames where they stand: once to count, and once to put.
 use arguments::Reply;
 use arguments::snapshots::snapshot_arg;
 use commit::SegmentRange;
-use commitbytes::fields;
 use commits::Place;
 use commits::commits_formed;
 use commits::row;
 use core::page_count::MaybePage;
 use core::page_count::PageCount;
 use entries::presence_formed;
-use frames::frame_list;
 use gifts::next_gift;
 use gifts::paths::Path;
 use gifts::paths::path_of;
@@ -18,12 +17,13 @@ use pageset::PageSet;
 use pageset::sets;
 use presence::is_present;
 use resultlists::snapshot_code;
+use segmentargs::lists::frame_in;
+use segmentbytes::frames::frames_count;
 use segmentbytes::range_write;
 ghost use mathlib.Core.Path.{_≡_};
 ghost use mathlib.Core.Bool.{true, _&&_};
-ghost use Prim.Native.Nat.{_/_, _<_, _≤_};
-ghost use lib.Dec.{leb};
-ghost use lib.ListN.{length};
+ghost use Prim.Native.Nat.{_+_, _-_, _/_, _<_, _≤_};
+ghost use lib.ListN.{length, take};
 ghost use Rattle.octets.specs.Bytes.{put};
 ghost use Rattle.octets.specs.Flat.{flat};
 ghost use Rattle.pageset.specs.Sets.{shown, normal};
@@ -36,7 +36,8 @@ ghost use Rattle.gifts.specs.Paths.{placesIn, Inside};
 ghost use Rattle.gifts.specs.Steps.{itemsFrom};
 ghost use Rattle.resultlists.specs.Lists.{slotsIn, listLeft};
 ghost use Rattle.resultlists.specs.Snapshots.{onSnapshot};
-ghost use Rattle.missingcalls.specs.Cursors.{SoundAt, Sound, framesAt, NextFrame, startCursor, missingLeft, NextMissing};
+ghost use Rattle.missingcalls.specs.Cursors.{SoundAt, Sound, framesAt, framesLeft, NextFrame, startCursor, missingLeft, NextMissing};
+ghost use Rattle.missingcalls.specs.Entries.{entered, Entries};
 
 // Where a listing stands: the record whose frames are listed, its gift, the number of its next frame, and the number of the path's next commit.
 pub struct Cursor {
@@ -84,12 +85,11 @@ fn next_frame(commits: &[u8], presence: &[u8], i: usize, gift: PageSet, from: us
     requires { ⌜ (commitsOk (now commits) ≡ true) × (presenceOk (now presence) ≡ true) × SoundAt (now commits) (Place.At i) × (normal gift ≡ true) ⌝ }
     ensures { λ r. ⌜ NextFrame (presenceIn (now (presence .entry))) (shown gift) (framesAt (now (commits .entry)) i) from r ⌝ }
 {
-    let list = frame_list(fields::commit_segment(commits, row(commits, i)));
-    let n = list.len;
-    let frames = list.frames;
+    let at = row(commits, i) + 63;
+    let n = frames_count(commits, at + 401);
     let mut j = from;
     while j < n {
-        let range = frames[j];
+        let range = frame_in(commits, at, j);
         j += 1;
         if is_missing(presence, range, gift) {
             return FrameStep {
@@ -194,23 +194,68 @@ pub fn next_missing(
     }
 }
 
-// Whether so many places are enough for the missing frames of a path.
-fn has_room(commits: &[u8], presence: &[u8], path: Path, count: PageCount, slots: usize) -> bool
-    requires { ⌜ (commitsOk (now commits) ≡ true) × (presenceOk (now presence) ≡ true) × Inside (now commits) (placesIn (path .runs)) ⌝ }
-    ensures { λ r. ⌜ r ≡ leb (length (missingOf (presenceIn (now (presence .entry))) (itemsFrom (now (commits .entry)) (count .0) (placesIn (path .runs)) 0))) slots ⌝ }
+// A frame, where it is missing, as entry `to` of a list that has a place for it; and the number of the next entry.
+fn put_frame(
+    presence: &[u8],
+    gift: PageSet,
+    range: SegmentRange,
+    list: &mut [u8],
+    to: usize,
+) -> usize
+    requires { ⌜ (presenceOk (now presence) ≡ true) × (normal (range .pages) ≡ true) × (normal gift ≡ true) × (to < 8589934592) ⌝ }
+    ensures { λ r. ⌜ (r, now (list .exit)) ≡ entered (isMissing (presenceIn (now (presence .entry))) (shown gift) (rangeSays range)) to (rangeSays range) (now (list .entry)) ⌝ }
 {
-    let mut c = start();
-    let mut left = slots;
+    if !is_missing(presence, range, gift) {
+        return to;
+    }
+    if list.len() / RANGE <= to {
+        return to + 1;
+    }
+    range_write(list, to * RANGE, range);
+    to + 1
+}
+
+// The missing frames of record i, which has a segment, as entries of a list from number `from` on, as far as it has places; and the number behind all of them.
+fn put_frames(
+    commits: &[u8],
+    presence: &[u8],
+    i: usize,
+    gift: PageSet,
+    list: &mut [u8],
+    from: usize,
+) -> usize
+    requires { ⌜ (commitsOk (now commits) ≡ true) × (presenceOk (now presence) ≡ true) × SoundAt (now commits) (Place.At i) × (normal gift ≡ true) ⌝ }
+    requires { ⌜ from < 4294967296 ⌝ }
+    ensures { λ r. ⌜ r ≡ from + length (framesLeft (presenceIn (now (presence .entry))) (shown gift) (framesAt (now (commits .entry)) i) 0) ⌝ }
+    ensures { λ _. ⌜ Entries from (take (length (now (list .entry)) / 417 - from) (framesLeft (presenceIn (now (presence .entry))) (shown gift) (framesAt (now (commits .entry)) i) 0)) (now (list .entry)) (now (list .exit)) ⌝ }
+{
+    let at = row(commits, i) + 63;
+    let n = frames_count(commits, at + 401);
+    let mut to = from;
+    let mut j: usize = 0;
+    while j < n {
+        to = put_frame(presence, gift, frame_in(commits, at, j), list, to);
+        j += 1;
+    }
+    to
+}
+
+// How many missing frames a path has: they are put into a list without places.
+fn count_missing(commits: &[u8], presence: &[u8], path: Path, count: PageCount) -> usize
+    requires { ⌜ (commitsOk (now commits) ≡ true) × (presenceOk (now presence) ≡ true) × Inside (now commits) (placesIn (path .runs)) ⌝ }
+    ensures { λ r. ⌜ r ≡ length (missingOf (presenceIn (now (presence .entry))) (itemsFrom (now (commits .entry)) (count .0) (placesIn (path .runs)) 0)) ⌝ }
+{
+    let mut none = [0u8; 1];
+    let mut k: usize = 0;
+    let mut n: usize = 0;
     loop {
-        let m = next_missing(commits, presence, path, count, c);
-        if !m.found {
-            return true;
-        }
-        if left == 0 {
-            return false;
-        }
-        left -= 1;
-        c = m.rest;
+        let step = next_gift(commits, path, count, k);
+        let at = step.at;
+        let Place::At(i) = at else {
+            return n;
+        };
+        n = put_frames(commits, presence, i, step.gift, &mut none, n);
+        k = step.next;
     }
 }
 
@@ -227,17 +272,16 @@ fn put_missing(
     ensures { λ r. ⌜ (r ≡ length (missingOf (presenceIn (now (presence .entry))) (itemsFrom (now (commits .entry)) (count .0) (placesIn (path .runs)) 0))) × (r < 4294967296) ⌝ }
     ensures { λ _. ⌜ now (list .exit) ≡ put 0 (flat (partBytes .spell) (missingOf (presenceIn (now (presence .entry))) (itemsFrom (now (commits .entry)) (count .0) (placesIn (path .runs)) 0))) (now (list .entry)) ⌝ }
 {
-    let mut c = start();
+    let mut k: usize = 0;
     let mut n: usize = 0;
     loop {
-        let m = next_missing(commits, presence, path, count, c);
-        if !m.found {
+        let step = next_gift(commits, path, count, k);
+        let at = step.at;
+        let Place::At(i) = at else {
             return n;
-        }
-        let range = m.range;
-        range_write(list, n * RANGE, range);
-        n += 1;
-        c = m.rest;
+        };
+        n = put_frames(commits, presence, i, step.gift, list, n);
+        k = step.next;
     }
 }
 
@@ -264,7 +308,7 @@ pub fn missing_frames(
     let s = snapshot_arg(snapshot);
     let path = path_of(commits, s);
     let count = s.count;
-    if !has_room(commits, presence, path, count, list.len() / RANGE) {
+    if list.len() / RANGE < count_missing(commits, presence, path, count) {
         return Reply { code: 19, found: 0 };
     }
     let n = put_missing(commits, presence, path, count, list);

@@ -18,7 +18,7 @@ use saves::in_use;
 use saves::next_lsn;
 use saves::put_pages;
 use saves::room_for_pages;
-use saves::saved_commit;
+use saves::write_saved;
 use setbytes::set_form;
 use setbytes::set_read;
 use snapshotbytes::snapshot_write;
@@ -184,7 +184,8 @@ fn save_stored(
 {
     let v = p.volume;
     let lsn = p.lsn;
-    let c = saved_commit(v, lsn, count, sid, set);
+    let mut c = [0u8; 722];
+    write_saved(&mut c, v, lsn, count, sid, set);
     if !write_room(commits, checkpoints, index, &c) {
         return 19;
     }

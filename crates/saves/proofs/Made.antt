@@ -6,7 +6,7 @@ use mathlib.Core.Bool.{Bool, true, cond}
 use native.Mathlib.Omega.{arith}
 use borrow.Author.Tests.{eq-eqb, ne-eqb, le-leb}
 use lib.Dec.{eqb}
-use lib.ListN.{length, set, replicate}
+use lib.ListN.{length, set}
 use Rattle.octets.specs.Bytes.{put, AreBytes}
 use Rattle.octets.proofs.Places as P
 use Rattle.core.specs.declared.lsn.Lsn.{Lsn}
@@ -87,8 +87,8 @@ module _ (v : R.Commit) (c : Commit) (e : c ≡ commitLaid v) where
   pub made-laid : commitLaid (commitSays c) ≡ c
   made-laid = ap commitLaid says ∙ sym e
 
-  module _ (f : commitForm v ≡ true) (b : List ℕ) (g : b ≡ put 0 (commitBytes .spell (commitSays c)) (replicate 722 0)) where
+  module _ (f : commitForm v ≡ true) (was : List ℕ) (l : length was ≡ 722) (b : List ℕ) (g : b ≡ put 0 (commitBytes .spell (commitSays c)) was) where
     pub made-bytes : b ≡ commitBytes .spell v
     made-bytes =
-        g ∙ ap (λ (x : R.Commit). put 0 (commitBytes .spell x) (replicate 722 0)) says
-        ∙ P.put-all (commitBytes .spell v) (replicate 722 0) (long-is commits v f)
+        g ∙ ap (λ (x : R.Commit). put 0 (commitBytes .spell x) was) says
+        ∙ P.put-all (commitBytes .spell v) was (long-is commits v f ∙ sym l)

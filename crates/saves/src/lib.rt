@@ -99,22 +99,22 @@ fn commit_made(v: Volume, lsn: Lsn, count: PageCount, sid: SegmentId, set: PageS
     c.with_checkpoints(1, lsns)
 }
 
-// Its bytes. (It is in form.)
-pub fn saved_commit(
+// Its bytes, over the 722 that are lent. (It is in form.)
+pub fn write_saved(
+    bytes: &mut [u8],
     v: Volume,
     lsn: Lsn,
     count: PageCount,
     sid: SegmentId,
     set: PageSet,
-) -> [u8; 722]
+)
     requires { ⌜ (volumeForm (volumeSays v) ≡ true) × (lsnForm (lsn .0) ≡ true) × (normal set ≡ true) ⌝ }
-    ensures { λ r. ⌜ r ≡ commitBytes .spell (savedCommit (volumeSays v) (lsn .0) (count .0) sid (shown set)) ⌝ }
+    requires { ⌜ length (now bytes) ≡ 722 ⌝ }
+    ensures { λ _. ⌜ now (bytes .exit) ≡ commitBytes .spell (savedCommit (volumeSays v) (lsn .0) (count .0) sid (shown set)) ⌝ }
     ensures { λ _. ⌜ commitForm (savedCommit (volumeSays v) (lsn .0) (count .0) sid (shown set)) ≡ true ⌝ }
 {
     let c = commit_made(v, lsn, count, sid, set);
-    let mut bytes = [0u8; 722];
-    commitbytes::commit_write(&mut bytes, 0, c);
-    bytes
+    commitbytes::commit_write(bytes, 0, c);
 }
 
 // ---- the pages

@@ -1,187 +1,311 @@
--- A frame list across the boundary: each range fills its 417 bytes, so that the loop stores one run behind the other; and what is left of an answer to the rule. Assumes nothing.
-use Prim.Native.Nat.{ℕ, zero, suc, _+_, _*_, _/_, _<_, _≤_}
-use mathlib.Core.Path.{_≡_, refl, sym, ap, ap₂, _∙_, subst}
-use mathlib.Core.List.{List, [], _∷_, _++_}
-use mathlib.Core.Bool.{Bool, true, false, cond, _&&_}
+-- The frames of a segment in bytes, one at a time. While a walk goes over them, what is left of the rule's parts is what the frames that are left make from a byte and a page on, the
+-- last pages that are left rise, and the sizes that are left fit (`Reached`). A walk may start at page 1, since no page of the set lies below its first. In a list each range fills its
+-- 417 bytes. Assumes nothing.
+use Prim.Native.Nat.{ℕ, zero, suc, _+_, _-_, _*_, _/_, _<_, _≤_, min}
+use mathlib.Core.Path.{_≡_, refl, sym, ap, ap₂, _∙_}
+use mathlib.Core.List.{List, [], _∷_, _++_, map}
+use mathlib.Core.Option.{Option, none, some}
+use mathlib.Core.Bool.{Bool, true, _&&_}
 use native.Mathlib.Omega.{arith}
 use native.Mathlib.Numerals.{add-one}
-use borrow.Author.Tests.{eq-eqb, ne-eqb, eqb-true, leb-true, le-leb, lt-leb}
-use lib.Dec.{eqb, leb}
-use lib.ListN.{length, getD, take, drop, length-map, length-take}
-use lib.Seq.{take-suc, getD-take, length-take-le}
-use Rattle.octets.specs.Bytes.{put}
+use borrow.Author.Tests.{eqb-true, leb-true, le-leb}
+use lib.Dec.{leb}
+use lib.ListN.{length, getD, take, drop, replicate, length-map, length-drop}
+use lib.Seq.{drop-at, drop-cons, drop-drop, take-add, take-all, length-take-le}
+use Rattle.octets.specs.Bytes.{be, part, put}
 use Rattle.octets.specs.Flat.{flat}
-use Rattle.octets.proofs.Places.{Stored, then-stored, put-none}
-use Rattle.core.specs.Answers.{Answer, refused, done, ask, _>>_}
-use Rattle.pageset.proofs.FormLaws.{and-fst, and-snd}
-use Rattle.pageset.specs.Sets.{normal}
+use Rattle.core.specs.Answers.{Answer, refused, done}
+use Rattle.core.specs.Numbers.{lastLsn, lastPage}
+use Rattle.pageset.specs.declared.PageSet.{PageSet}
+use Rattle.pageset.specs.Sets.{bit, blank, holds, maskAt, member, normal, normalForm, rising, shown, windowForms}
+use Rattle.pageset.specs.Rules.{within}
+use Rattle.pageset.specs.Says.{IsSet}
 use Rattle.rules.specs.Records as R
-use Rattle.rules.specs.Forms.{segmentForm, listsForm, idForm, bytesForm, startPage}
+use Rattle.rules.specs.Pages.{firstPage, span}
+use Rattle.rules.specs.Forms.{orOne, startPage, lastsFrom, total, framesForm, listsForm, segmentForm, bytesForm}
 use Rattle.rules.specs.Frames.{Part, partsFrom, partsOf, frameList}
+use Rattle.rules.proofs.TableLaws.{cases, and-fst, and-snd, and-both}
+use Rattle.rules.proofs.PageCounts.{holds-span, span-normal}
+use Rattle.commit.proofs.SetLaws.{one-list}
+use Rattle.commit.proofs.RecordLaws.{one-range}
 use Rattle.commit.specs.declared.SegmentIdx.{SegmentIdx}
 use Rattle.commit.specs.declared.SegmentRange.{SegmentRange}
-use Rattle.commit.specs.Says.{frameSays, segmentSays}
-use Rattle.frames.specs.declared.FrameList.{FrameList}
-use Rattle.frames.specs.Parts.{AreRanges, Lists}
-use Rattle.frames.specs.Rules.{listRule, spelled, noFrames}
-use Rattle.layout.specs.Codecs.{inForm}
-use Rattle.layout.proofs.HoldLaws.{in-form}
-use Rattle.layout.specs.Values.{segmentBytes, partBytes}
-use Rattle.segmentbytes.specs.Laid.{segmentLaid}
-use Rattle.arguments.specs.declared.Reply.{Reply}
-use Rattle.arguments.specs.Replies.{none-under, given, value}
-use Rattle.arguments.specs.Args.{argument}
-use Rattle.arguments.proofs.SetLaws.{Early}
+use Rattle.commit.specs.Builders.{zeroFrame}
+use Rattle.commit.specs.Says.{segmentSays, rangeSays}
+use Rattle.frames.specs.declared.Run.{Run}
+use Rattle.frames.specs.Rules.{noFrames, spelled, framesOk, listRule}
+use Rattle.frames.proofs.PlaceLaws.{form-rises, formed-ok, span-is, start-least}
+use Rattle.layout.specs.Values.{setBytes, frameBytes, framesBytes, partBytes}
+use Rattle.setbytes.specs.Laid.{setLaid}
+use Rattle.setbytes.proofs.LaidLaws.{says-laid, laid-normal}
+use Rattle.setbytes.proofs.SetLaws.{first-counts}
+use Rattle.segmentbytes.specs.Laid.{framesAt, frameLaid, segmentLaid}
+use Rattle.segmentbytes.proofs.FrameLaws.{frame-at, frame-nth, length-frames}
+use Rattle.segmentbytes.proofs.DomainLaws.{frames-at}
+use Rattle.segmentbytes.proofs.SegmentLaws.{segment-at}
+use Rattle.segmentbytes.proofs.Trips.{segment-says}
+use Rattle.arguments.specs.Args.{notASet}
+use Rattle.arguments.specs.Replies.{given}
+use Rattle.resultlists.specs.Lists.{roomed, listLeft}
+use Rattle.resultlists.proofs.EntryLaws.{Listed, none-listed, one-listed}
+use Rattle.resultlists.proofs.AnswerLaws.{left-put, room-none, room-there}
 use Rattle.segmentargs.specs.Segments.{notASegment, segmentArg}
-use Rattle.resultlists.specs.Lists.{slotsIn, roomed, listLeft}
-use Rattle.resultlists.proofs.EntryLaws.{flat-append, flat-one}
-use Rattle.resultlists.proofs.AnswerLaws.{left-asked}
-use Rattle.segmentargs.specs.Lists.{rangeSpell, AllFit, listPut}
+use Rattle.segmentargs.specs.Lists.{segmentIn, Nth, runIn, IsFrame}
 use Rattle.segmentargs.proofs.SegmentLaws.{range-size, range-long}
 
--- ---- the loop
+-- ---- number k of a list
 
-flat-last : {A : Type 0} (e : A → List ℕ) (xs : List A) (x : A) → flat e (xs ++ (x ∷ [])) ≡ flat e xs ++ e x
-flat-last e xs x = flat-append e xs (x ∷ []) ∙ ap (λ (l : List ℕ). flat e xs ++ l) (flat-one e x)
+module _ {A : Type 0} (l : List A) (k : ℕ) (x : A) (e : Nth l k x) where
+  pub nth-below : k < length l
+  nth-below = omega (arith, ap length e, length-drop k l)
 
--- what was written in i turns
-abbrev pub Written : ℕ → List SegmentRange → List ℕ → List ℕ → Type 0
-Written i rs s t = Stored 0 (417 * i) (flat rangeSpell (take i rs)) s t
+  pub nth-take : take (k + 1) l ≡ take k l ++ (x ∷ [])
+  nth-take = take-add k 1 l ∙ ap (λ (m : List A). take k l ++ take 1 m) e
 
-pub none-written : (rs : List SegmentRange) (s : List ℕ) → Written 0 rs s s
-unfolding flat
-none-written rs s = record { long = refl; bytes = sym (put-none 0 s) }
+-- ---- the frames where they stand
 
--- a range among those that count fits
-pub fit-at : (rs : List SegmentRange) (i : ℕ) (z : SegmentRange) → i < length rs → AllFit rs → (length (getD rs i z .sid) ≡ 16) × (normal (getD rs i z .pages) ≡ true)
-unfolding AllFit
-fit-at [] i z h f = absurd (omega arith)
-fit-at (r ∷ rs) zero z h f = (f .0, f .1)
-fit-at (r ∷ rs) (suc i) z h f = fit-at rs i z (omega arith) (f .2)
+module _ (b : List ℕ) (at : ℕ) (h : at + 594 ≤ length b) where
+  abbrev count : ℕ
+  count = min (be (part (at + 401) 1 b)) 16
 
-module _ (rs : List SegmentRange) (n i : ℕ) (z : SegmentRange) (h : i < n) (l : n ≤ length rs) (f : AllFit (take n rs)) where
-  pub fit : (length (getD rs i z .sid) ≡ 16) × (normal (getD rs i z .pages) ≡ true)
-  fit = subst (λ (r : SegmentRange). (length (r .sid) ≡ 16) × (normal (r .pages) ≡ true)) (getD-take n rs i z h) (fit-at (take n rs) i z (omega (arith, length-take-le n rs l)) f)
+  frames-are : segmentIn at b .frames ≡ framesAt count (at + 401 + 1) b
+  frames-are = ap (λ (s : R.Segment). s .frames) (segment-at b at) ∙ frames-at b (at + 401) (omega arith) count refl
 
-  -- a turn
-  pub turn-written : (s t u : List ℕ) → 417 * n ≤ length s → Written i rs s t → u ≡ put (417 * i) (rangeSpell (getD rs i z)) t → Written (i + 1) rs s u
-  turn-written s t u m w e =
-      let x = getD rs i z in
-      let b : take (i + 1) rs ≡ take i rs ++ (x ∷ []) = ap (λ (k : ℕ). take k rs) (add-one i) ∙ take-suc rs i z (omega arith) in
-      let p : u ≡ put (0 + 417 * i) (rangeSpell x) t = e ∙ ap (λ (k : ℕ). put k (rangeSpell x) t) (omega arith) in
-      let v = then-stored w 417 (rangeSpell x) (range-long x (fit .0) (fit .1)) (omega arith) p in
-      let k : 417 * i + 417 ≡ 417 * (i + 1) = omega arith in
-      record { long = ap (λ (c : List SegmentRange). length (flat rangeSpell c)) b ∙ ap length (flat-last rangeSpell (take i rs) x) ∙ v .long ∙ k; bytes = v .bytes ∙ ap (λ (c : List ℕ). put 0 c s) (sym (ap (flat rangeSpell) b ∙ flat-last rangeSpell (take i rs) x)) }
+  pub frames-few : length (segmentIn at b .frames) ≤ 16
+  frames-few = omega (arith, ap length frames-are, length-frames count (at + 401 + 1) b)
 
--- ---- an answer by value, as it is put
+  -- entry k, from a place on
+  module _ (k from : ℕ) (l : k < length (segmentIn at b .frames)) (p : from ≡ at + 402 + k * 12) where
+    read-at : (z : R.Frame) → getD (segmentIn at b .frames) k z ≡ record { size = be (part from 8 b); last = be (part (from + 8) 4 b) }
+    read-at z =
+        let m : k < count = omega (arith, ap length frames-are, length-frames count (at + 401 + 1) b) in
+        let q : at + 401 + 1 + k * 12 ≡ from = omega arith in
+        ap (λ (fs : List R.Frame). getD fs k z) frames-are
+        ∙ frame-nth count (at + 401 + 1) b z k m
+        ∙ ap (λ (n : ℕ). frameBytes .read (part n 12 b)) q
+        ∙ frame-at from b
 
-module _ (was : List ℕ) (items : ℕ) (a : FrameList) where
-  abbrev list : Reply × (List ℕ × ℕ)
-  list = (given, (put 0 (flat rangeSpell (take (a .len) (a .frames))) was, a .len))
+    pub entry-at : Nth (segmentIn at b .frames) k (record { size = be (part from 8 b); last = be (part (from + 8) 4 b) })
+    entry-at =
+        let z : R.Frame = record { size = 0; last = 0 } in
+        rw add-one (drop-cons (segmentIn at b .frames) k z l ∙ ap (λ (f : R.Frame). f ∷ drop (suc k) (segmentIn at b .frames)) (read-at z))
 
-  by : Bool → Bool → Reply × (List ℕ × ℕ)
-  by z l = cond z (cond l list (none-under 19, (was, items))) (none-under (a .code), (was, items))
+-- ---- a first frame from page 1 on
 
-  is-by : (z l : Bool) → eqb (a .code) 0 ≡ z → leb (a .len) (length was / 417) ≡ l → by z l ≡ listPut was items a
-  unfolding listPut by
-  is-by z l p q = rw (← p, ← q)
+module _ (ws : R.Pages) (e : normalForm ws ≡ true) where
+  start-counts : 0 < startPage ws
+  start-counts = go (firstPage ws) refl
+    where
+      go : (o : Option ℕ) → o ≡ firstPage ws → 0 < orOne o
+      go none q = omega arith
+      go (some p) q = first-counts ws e p q
 
-  pub put-refused : (a .code ≡ 0 → ⊥) → (none-under (a .code), (was, items)) ≡ listPut was items a
-  unfolding by
-  put-refused h = is-by false (leb (a .len) (length was / 417)) (ne-eqb (a .code) 0 h) refl
+  -- no page of the set lies below its first
+  none-below : (p : ℕ) → holds ws p ≡ true → startPage ws ≤ p
+  none-below p m =
+      let s = says-laid ws in
+      rw s at (start-least (setLaid ws) (laid-normal ws e) p (ap (λ (v : R.Pages). holds v p) s ∙ m))
 
-  pub put-short : a .code ≡ 0 → length was / 417 < a .len → (none-under 19, (was, items)) ≡ listPut was items a
-  unfolding by
-  put-short h l = is-by true false (eq-eqb (a .code) 0 h) (lt-leb (a .len) (length was / 417) l)
+  span-one : (b : ℕ) → span (startPage ws) b ws ≡ span 1 b ws
+  span-one b =
+      one-list (span (startPage ws) b ws) (span 1 b ws) (form-rises _ (span-normal (startPage ws) b ws e)) (form-rises _ (span-normal 1 b ws e))
+      (λ p. holds-span (startPage ws) b ws p e start-counts ∙ same p ∙ sym (holds-span 1 b ws p e (omega arith)))
+    where
+      same : (p : ℕ) → holds ws p && (leb (startPage ws) p && leb p b) ≡ holds ws p && (leb 1 p && leb p b)
+      same p =
+          cases (holds ws p)
+          (λ k. let l = none-below p k in ap (λ (t : Bool). holds ws p && (t && leb p b)) (le-leb (startPage ws) p l ∙ sym (le-leb 1 p (omega (arith, l, start-counts)))))
+          (λ k. rw k)
 
-  pub put-list : a .code ≡ 0 → a .len ≤ length was / 417 → list ≡ listPut was items a
-  unfolding by
-  put-list h l = is-by true true (eq-eqb (a .code) 0 h) (le-leb (a .len) (length was / 417) l)
+-- ---- the walk
 
--- ---- what is left of an answer to the rule
+-- number i is next, from this byte and this page on
+pub record Reached (s : R.Segment) (i byte page : ℕ) : Type 0 where
+  pub left : drop i (partsOf s) ≡ partsFrom s byte page (drop i (s .frames))
+  pub rising : lastsFrom page (drop i (s .frames)) ≡ true
+  pub fits : byte + total (drop i (s .frames)) ≤ 18446744073709551615
 
-same-bytes : (fs : List Part) (rs : List SegmentRange) → AreRanges fs rs → flat rangeSpell rs ≡ flat (partBytes .spell) fs
-unfolding AreRanges flat
-same-bytes [] [] h = refl
-same-bytes [] (r ∷ rs) h = absurd h
-same-bytes (f ∷ fs) [] h = absurd h
-same-bytes (f ∷ fs) (r ∷ rs) h = ap₂ _++_ (ap (partBytes .spell) (h .0 .says)) (same-bytes fs rs (h .1))
+module _ (s : R.Segment) (e : segmentForm s ≡ true) where
+  pub its-form : normalForm (s .pages) ≡ true
+  unfolding segmentForm listsForm
+  its-form = search (and-fst, and-snd)
 
-module _ (was : List ℕ) (items : ℕ) where
-  abbrev held : Bool → List ℕ → ℕ → Reply × (List ℕ × ℕ)
-  held t b k = cond t (given, (put 0 b was, k)) (none-under 19, (was, items))
+  pub its-sid : length (s .sid) ≡ 16
+  unfolding segmentForm bytesForm
+  its-sid = eqb-true (length (s .sid)) 16 (search (and-fst, and-snd))
 
-  pub left-list : (a : FrameList) (q : Answer (List Part)) → Early q → Lists a q → listPut was items a ≡ listLeft partBytes was items (roomed partBytes was q)
-  unfolding by
-  left-list a (refused n) l e =
-      let c : a .code ≡ n = ap (λ (x : FrameList). x .code) e in
-      sym (put-refused was items a (λ z. omega arith)) ∙ ap (λ (k : ℕ). (none-under k, (was, items))) c
-  left-list a (done fs) l e =
-      let n = e .1 in
-      let b = ap (λ (k : ℕ). flat rangeSpell (take k (a .frames))) n ∙ same-bytes fs (take (length fs) (a .frames)) (e .2 .parts) in
-      let t = ap₂ (λ (j k : ℕ). leb k (length was / j)) (sym range-size) n in
-      sym (is-by was items a true (leb (a .len) (length was / 417)) (eq-eqb (a .code) 0 (e .0)) refl) ∙ (λ j. held (t j) (b j) (n j)) ∙ left-asked partBytes was items (leb (length fs) (slotsIn partBytes was)) fs
+  its-lasts : lastsFrom (startPage (s .pages)) (s .frames) ≡ true
+  unfolding segmentForm listsForm framesForm
+  its-lasts = search (and-fst, and-snd)
 
-list-chain : {A : Type 0} (t u : Bool) (x : A) → Early (ask t 3 >> (ask u 3 >> done x))
-list-chain true true x = tt
-list-chain true false x = (omega arith, omega arith)
-list-chain false u x = (omega arith, omega arith)
+  its-sum : total (s .frames) ≤ lastLsn
+  unfolding segmentForm listsForm framesForm
+  its-sum = let q : leb (total (s .frames)) lastLsn ≡ true = search (and-fst, and-snd) in leb-true (total (s .frames)) lastLsn q
 
-pub list-early : (s : SegmentIdx) → Early (listRule s)
+  from-one : (fs : List R.Frame) → partsFrom s 0 (startPage (s .pages)) fs ≡ partsFrom s 0 1 fs
+  from-one [] = refl
+  from-one (f ∷ fs) =
+      ap (λ (ws : R.Pages). record { sid = s .sid; start = 0; end = 0 + f .size; pages = ws } ∷ partsFrom s (0 + f .size) (f .last + 1) fs) (span-one (s .pages) its-form (f .last))
+
+  rising-one : (fs : List R.Frame) → lastsFrom (startPage (s .pages)) fs ≡ true → lastsFrom 1 fs ≡ true
+  unfolding lastsFrom
+  rising-one [] q = refl
+  rising-one (f ∷ fs) q =
+      let l : leb (startPage (s .pages)) (f .last) ≡ true = search (and-fst, and-snd) in
+      let m : leb (f .last) lastPage ≡ true = search (and-fst, and-snd) in
+      let n : lastsFrom (f .last + 1) fs ≡ true = search (and-fst, and-snd) in
+      and-both (and-both (le-leb 1 (f .last) (omega (arith, leb-true (startPage (s .pages)) (f .last) l, start-counts (s .pages) its-form))) m) n
+
+  pub reached-first : Reached s 0 0 1
+  unfolding lastLsn partsOf
+  reached-first = record { left = from-one (s .frames); rising = rising-one (s .frames) its-lasts; fits = omega (arith, its-sum) }
+
+module _ (s : R.Segment) (i byte page : ℕ) (r : Reached s i byte page) (f : R.Frame) (e : Nth (s .frames) i f) where
+  -- the sum of the sizes so far fits
+  pub next-fits : byte + f .size ≤ 18446744073709551615
+  next-fits = omega (arith, r .fits, ap total e)
+
+  here : lastsFrom page (f ∷ drop (i + 1) (s .frames)) ≡ true
+  here = ap (lastsFrom page) (sym e) ∙ r .rising
+
+  -- the frame does not end before its first page
+  pub next-page : page ≤ f .last
+  unfolding lastsFrom
+  next-page = let q : leb page (f .last) ≡ true = let k = here in search (and-fst, and-snd) in leb-true page (f .last) q
+
+  abbrev this : Part
+  this = record { sid = s .sid; start = byte; end = byte + f .size; pages = span page (f .last) (s .pages) }
+
+  abbrev later : List Part
+  later = partsFrom s (byte + f .size) (f .last + 1) (drop (i + 1) (s .frames))
+
+  from-here : drop i (partsOf s) ≡ this ∷ later
+  from-here = r .left ∙ ap (partsFrom s byte page) e
+
+  behind : drop (i + 1) (partsOf s) ≡ later
+  behind = sym (drop-drop 1 i (partsOf s)) ∙ ap (drop 1) from-here
+
+  pub reached-part : Nth (partsOf s) i (record { sid = s .sid; start = byte; end = byte + f .size; pages = span page (f .last) (s .pages) })
+  reached-part = from-here ∙ ap (λ (l : List Part). this ∷ l) (sym behind)
+
+  pub reached-next : Reached s (i + 1) (byte + f .size) (f .last + 1)
+  unfolding lastsFrom
+  reached-next = record {
+    left = behind;
+    rising = let k = here in search (and-fst, and-snd);
+    fits = omega (arith, r .fits, ap total e);
+  }
+
+-- as many parts as frames
+from-long : (s : R.Segment) (byte page : ℕ) (fs : List R.Frame) → length (partsFrom s byte page fs) ≡ length fs
+from-long s byte page [] = refl
+from-long s byte page (f ∷ fs) = ap suc (from-long s (byte + f .size) (f .last + 1) fs)
+
+pub parts-long : (s : R.Segment) → length (partsOf s) ≡ length (s .frames)
+unfolding partsOf
+parts-long s = from-long s 0 (startPage (s .pages)) (s .frames)
+
+-- ---- a frame by value
+
+module _ (b : List ℕ) (at : ℕ) (e : segmentForm (segmentIn at b) ≡ true) (k : ℕ) (run : Run) (n : Nth (partsOf (segmentIn at b)) k (runIn (segmentIn at b) run) × (0 < run .first .0)) where
+  -- the segment's set, as it is read
+  module _ (set : PageSet) (q : set ≡ setLaid (setBytes .read (part (at + 16) 385 b))) where
+    held : set ≡ setLaid (segmentIn at b .pages)
+    held = q ∙ sym (ap (λ (x : R.Segment). setLaid (x .pages)) (segment-at b at))
+
+    pub set-fine : normal set ≡ true
+    set-fine = ap normal held ∙ laid-normal (segmentIn at b .pages) (its-form (segmentIn at b) e)
+
+    pub made-frame : (sid : List ℕ) (pages : PageSet) → sid ≡ part at 16 b → IsSet (λ p. member set p && within (run .first .0) (run .last .0) p) pages
+        → IsFrame (partsOf (segmentIn at b)) k (record { sid = sid; start = run .start; end = run .end; pages = pages })
+    made-frame sid pages i h =
+        let ident : sid ≡ segmentIn at b .sid = i ∙ sym (ap (λ (x : R.Segment). x .sid) (segment-at b at)) in
+        let shows : shown set ≡ segmentIn at b .pages = ap shown held ∙ says-laid (segmentIn at b .pages) in
+        let within-it : shown pages ≡ span (run .first .0) (run .last .0) (segmentIn at b .pages) =
+        span-is set pages (run .first .0) (run .last .0) set-fine (n .1) h ∙ ap (span (run .first .0) (run .last .0)) shows in
+        let said : runIn (segmentIn at b) run ≡ record { sid = sid; start = run .start; end = run .end; pages = shown pages } =
+        ap₂ (λ (x : List ℕ) (ws : R.Pages). record { sid = x; start = run .start; end = run .end; pages = ws }) (sym ident) (sym within-it) in
+        record {
+          says = n .0 ∙ ap (λ (p : Part). p ∷ drop (k + 1) (partsOf (segmentIn at b))) said;
+          sid = ap length ident ∙ its-sid (segmentIn at b) e;
+          normal = h .normal;
+        }
+
+-- so the frame is one range
+pub one-frame : (fs : List Part) (k : ℕ) (x y : SegmentRange) → IsFrame fs k x → IsFrame fs k y → x ≡ y
+one-frame fs k x y h g =
+    let e : rangeSays x ∷ drop (k + 1) fs ≡ rangeSays y ∷ drop (k + 1) fs = sym (h .says) ∙ g .says in
+    let f : rangeSays y ≡ rangeSays x = cc in
+    one-range (rangeSays x) x y (record { says = refl; normal = h .normal }) (record { says = f; normal = g .normal })
+
+-- ---- the list
+
+module _ (fs : List Part) (was : List ℕ) where
+  pub listed-none : Listed partBytes 417 was (take 0 fs) was
+  listed-none = none-listed partBytes 417 was
+
+  -- a frame more
+  pub listed-more : (k : ℕ) (r : SegmentRange) (t u : List ℕ) → IsFrame fs k r → (k + 1) * 417 ≤ length was → Listed partBytes 417 was (take k fs) t → u ≡ put (k * 417) (partBytes .spell (rangeSays r)) t
+      → Listed partBytes 417 was (take (k + 1) fs) u
+  listed-more k r t u f room w p =
+      let x = rangeSays r in
+      let l = length-take-le k fs (omega (arith, nth-below fs k x (f .says))) in
+      rw (nth-take fs k x (f .says))
+      (one-listed partBytes 417 was (take k fs) x t u w (range-long r (f .sid) (f .normal)) (rw l room) (p ∙ ap (λ (n : ℕ). put (n * 417) (partBytes .spell x) t) (sym l)))
+
+  -- all of them
+  pub listed-all : (k : ℕ) (t : List ℕ) → length fs ≤ k → Listed partBytes 417 was (take k fs) t → t ≡ put 0 (flat (partBytes .spell) fs) was
+  listed-all k t h w = w .bytes ∙ ap (λ (l : List Part). put 0 (flat (partBytes .spell) l) was) (take-all k fs h)
+
+-- ---- the rule on an argument
+
+-- one that is not in form
+rule-bad : refused 3 ≡ listRule notASegment
+unfolding listRule spelled notASegment notASet normal blank normalForm rising windowForms holds bit maskAt
+rule-bad = refl
+
+-- one that is
+no-frames : (n : ℕ) → noFrames (replicate n zeroFrame) ≡ true
+unfolding noFrames
+no-frames zero = refl
+no-frames (suc n) = no-frames n
+
+laid-ok : (x : R.Segment) → segmentForm x ≡ true → framesOk (segmentLaid x) ≡ true
+unfolding framesOk spelled segmentForm listsForm framesForm
+laid-ok x e =
+    let f : normalForm (x .pages) ≡ true = search (and-fst, and-snd) in
+    let few : leb (length (x .frames)) 16 ≡ true = search (and-fst, and-snd) in
+    let lists : listsForm x ≡ true = search (and-fst, and-snd) in
+    let past = drop-at (map frameLaid (x .frames)) (replicate (16 - length (x .frames)) zeroFrame) (length (x .frames)) (length-map (x .frames) frameLaid) in
+    and-both
+    (and-both (and-both (laid-normal (x .pages) f) few) (ap noFrames past ∙ no-frames (16 - length (x .frames))))
+    (ap listsForm (segment-says x) ∙ lists)
+
+rule-good : (x : R.Segment) → segmentForm x ≡ true → done (partsOf x) ≡ listRule (segmentLaid x)
 unfolding listRule frameList
-list-early s = list-chain (spelled s) (listsForm (segmentSays s)) (partsOf (segmentSays s))
+rule-good x e = ap (λ (s : R.Segment). done (partsOf s)) (sym (segment-says x)) ∙ formed-ok (segmentLaid x) (done (partsOf (segmentSays (segmentLaid x)))) (laid-ok x e)
 
--- ---- what is put fits
+-- the call asks for room behind it
+module _ (b was : List ℕ) where
+  abbrev asked : Answer (List Part)
+  asked = roomed partBytes was (listRule (segmentArg b))
 
-from-parts : (s : R.Segment) → length (s .sid) ≡ 16 → (byte page : ℕ) (frames : List R.Frame) (rs : List SegmentRange) → AreRanges (partsFrom s byte page frames) rs → AllFit rs
-unfolding AreRanges AllFit
-from-parts s e byte page [] [] h = tt
-from-parts s e byte page [] (r ∷ rs) h = absurd h
-from-parts s e byte page (f ∷ fs) [] h = absurd h
-from-parts s e byte page (f ∷ fs) (r ∷ rs) h =
-    (ap (λ (p : Part). length (p .sid)) (h .0 .says) ∙ e, h .0 .normal, from-parts s e (byte + f .size) (f .last + 1) fs rs (h .1))
+  pub asked-bad : notASegment ≡ segmentArg b → asked ≡ refused 3
+  asked-bad e = ap (λ (s : SegmentIdx). roomed partBytes was (listRule s)) (sym e) ∙ ap (roomed partBytes was) (sym rule-bad)
 
-parts-fit : (s : SegmentIdx) → length (s .sid) ≡ 16 → (a : FrameList) (t u : Bool) → Lists a (ask t 3 >> (ask u 3 >> done (partsOf (segmentSays s)))) → AllFit (take (a .len) (a .frames))
-unfolding AllFit partsOf
-parts-fit s e a false u h = rw (ap (λ (x : FrameList). x .len) h) tt
-parts-fit s e a true false h = rw (ap (λ (x : FrameList). x .len) h) tt
-parts-fit s e a true true h = rw (h .1) (from-parts (segmentSays s) e 0 _ (segmentSays s .frames) _ (h .2 .parts))
+  module _ (e : segmentLaid (segmentIn 0 b) ≡ segmentArg b) (f : segmentForm (segmentIn 0 b) ≡ true) (n : ℕ) (k : n ≡ length (framesBytes .read (part 401 193 b))) where
+    pub frames-counted : n ≡ length (segmentIn 0 b .frames)
+    frames-counted = k ∙ sym (ap (λ (s : R.Segment). length (s .frames)) (segment-at b 0))
 
-pub list-fit : (s : SegmentIdx) → length (s .sid) ≡ 16 → (a : FrameList) → Lists a (listRule s) → AllFit (take (a .len) (a .frames))
-unfolding listRule frameList
-list-fit s e a h = parts-fit s e a (spelled s) (listsForm (segmentSays s)) h
+    parts-counted : n ≡ length (partsOf (segmentIn 0 b))
+    parts-counted = frames-counted ∙ sym (parts-long (segmentIn 0 b))
 
--- at most sixteen count
-length-parts : (s : R.Segment) (byte page : ℕ) (frames : List R.Frame) → length (partsFrom s byte page frames) ≡ length frames
-length-parts s byte page [] = refl
-length-parts s byte page (f ∷ fs) = ap suc (length-parts s (byte + f .size) (f .last + 1) fs)
+    by-rule : asked ≡ roomed partBytes was (done (partsOf (segmentIn 0 b)))
+    by-rule = ap (λ (s : SegmentIdx). roomed partBytes was (listRule s)) (sym e) ∙ ap (roomed partBytes was) (sym (rule-good (segmentIn 0 b) f))
 
-spelled-few : (s : SegmentIdx) → spelled s ≡ true → length (partsOf (segmentSays s)) ≤ 16
-unfolding spelled partsOf
-spelled-few s h =
-    let l = leb-true (s .len) 16 (and-snd (normal (s .pages)) (leb (s .len) 16) (and-fst (normal (s .pages) && leb (s .len) 16) (noFrames (drop (s .len) (s .frames))) h)) in
-    omega (arith, l, length-parts (segmentSays s) 0 (startPage (segmentSays s .pages)) (segmentSays s .frames), length-map (take (s .len) (s .frames)) frameSays, length-take (s .len) (s .frames))
+    pub asked-short : length was / 417 < n → asked ≡ refused 19
+    asked-short h = by-rule ∙ room-none partBytes 417 range-size was (partsOf (segmentIn 0 b)) n parts-counted h
 
-chain-few : (s : SegmentIdx) (a : FrameList) (t u : Bool) → spelled s ≡ t → Lists a (ask t 3 >> (ask u 3 >> done (partsOf (segmentSays s)))) → a .len ≤ 16
-chain-few s a false u e h = rw (ap (λ (x : FrameList). x .len) h) (omega arith)
-chain-few s a true false e h = rw (ap (λ (x : FrameList). x .len) h) (omega arith)
-chain-few s a true true e h = rw (h .1) (spelled-few s e)
-
-pub list-few : (s : SegmentIdx) (a : FrameList) → Lists a (listRule s) → a .len ≤ 16
-unfolding listRule frameList
-list-few s a h = chain-few s a (spelled s) (listsForm (segmentSays s)) refl h
-
--- an argument's identifier has 16 bytes
-formed-sid : (s : R.Segment) → segmentForm s ≡ true → length (s .sid) ≡ 16
-unfolding segmentForm bytesForm
-formed-sid s h = eqb-true (length (s .sid)) 16 (and-fst (eqb (length (s .sid)) 16) _ (and-fst (idForm (s .sid)) (listsForm s) h))
-
-known-sid : (b : List ℕ) (t f : Bool) → inForm segmentBytes segmentForm b ≡ f → length (cond (t && f) (segmentLaid (segmentBytes .read b)) notASegment .sid) ≡ 16
-unfolding notASegment
-known-sid b true true e = formed-sid (segmentBytes .read b) (in-form segmentBytes segmentForm b e .1)
-known-sid b true false e = refl
-known-sid b false f e = refl
-
-pub arg-sid : (b : List ℕ) → length (segmentArg b .sid) ≡ 16
-unfolding argument
-arg-sid b = known-sid b (eqb (length b) (segmentBytes .size)) (inForm segmentBytes segmentForm b) refl
+    pub asked-list : (items : ℕ) (t : List ℕ) → n ≤ length was / 417 → t ≡ put 0 (flat (partBytes .spell) (partsOf (segmentIn 0 b))) was → (given, (t, n)) ≡ listLeft partBytes was items asked
+    asked-list items t h w =
+        left-put partBytes was items asked (partsOf (segmentIn 0 b)) t n (by-rule ∙ room-there partBytes 417 range-size was (partsOf (segmentIn 0 b)) n parts-counted h) w parts-counted

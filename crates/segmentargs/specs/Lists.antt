@@ -1,32 +1,33 @@
--- A frame list by value, as it is put to lent bytes: one range after another, and what lies past the last stays.
-use Prim.Native.Nat.{ℕ, _/_}
+-- The frames of a segment that stands in bytes, one at a time.
+use Prim.Native.Nat.{ℕ, _+_}
 use mathlib.Core.Path.{_≡_}
-use mathlib.Core.List.{List, [], _∷_}
-use mathlib.Core.Bool.{true, cond}
-use lib.Dec.{eqb, leb}
-use lib.ListN.{length, take}
-use Rattle.octets.specs.Bytes.{put}
-use Rattle.octets.specs.Flat.{flat}
+use mathlib.Core.List.{List, _∷_}
+use mathlib.Core.Bool.{true}
+use lib.ListN.{length, drop}
+use Rattle.octets.specs.Bytes.{part}
 use Rattle.pageset.specs.Sets.{normal}
+use Rattle.rules.specs.Records.{Segment}
+use Rattle.rules.specs.Pages.{span}
+use Rattle.rules.specs.Frames.{Part}
 use Rattle.commit.specs.declared.SegmentRange.{SegmentRange}
 use Rattle.commit.specs.Says.{rangeSays}
-use Rattle.frames.specs.declared.FrameList.{FrameList}
-use Rattle.layout.specs.Values.{partBytes}
-use Rattle.arguments.specs.declared.Reply.{Reply}
-use Rattle.arguments.specs.Replies.{none-under, given}
+use Rattle.frames.specs.declared.Run.{Run}
+use Rattle.layout.specs.Values.{segmentBytes}
 
--- the bytes of a range
-abbrev pub rangeSpell : SegmentRange → List ℕ
-rangeSpell r = partBytes .spell (rangeSays r)
+-- the segment that stands at a place
+abbrev pub segmentIn : ℕ → List ℕ → Segment
+segmentIn at b = segmentBytes .read (part at 594 b)
 
--- each range has an identifier of 16 bytes and a set in normal form, so that it fills its bytes
-unfoldable pub AllFit : List SegmentRange → Type 0
-AllFit [] = Unit {0}
-AllFit (r ∷ rs) = (length (r .sid) ≡ 16) × (normal (r .pages) ≡ true) × AllFit rs
+-- number k of a list, counted from 0
+abbrev pub Nth : {A : Type 0} → List A → ℕ → A → Type 0
+Nth l k x = drop k l ≡ x ∷ drop (k + 1) l
 
--- its number, then 19, then the ranges that count
-unfoldable pub listPut : List ℕ → ℕ → FrameList → Reply × (List ℕ × ℕ)
-listPut was items a =
-    cond (eqb (a .code) 0)
-    (cond (leb (a .len) (length was / 417)) (given, (put 0 (flat rangeSpell (take (a .len) (a .frames))) was, a .len)) (none-under 19, (was, items)))
-    (none-under (a .code), (was, items))
+-- a run of a segment's bytes, with the pages of its set from the run's first page to its last
+abbrev pub runIn : Segment → Run → Part
+runIn s r = record { sid = s .sid; start = r .start; end = r .end; pages = span (r .first .0) (r .last .0) (s .pages) }
+
+-- the range says part k, its identifier has 16 bytes, and its set is in normal form
+pub record IsFrame (fs : List Part) (k : ℕ) (r : SegmentRange) : Type 0 where
+  pub says : Nth fs k (rangeSays r)
+  pub sid : length (r .sid) ≡ 16
+  pub normal : normal (r .pages) ≡ true
