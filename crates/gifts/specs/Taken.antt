@@ -2,11 +2,11 @@
 use Prim.Native.Nat.{ℕ, _+_, _≤_}
 use mathlib.Core.Path.{_≡_}
 use mathlib.Core.List.{List}
-use mathlib.Core.Bool.{_&&_, _||_}
+use mathlib.Core.Bool.{false, _&&_, _||_}
 use mathlib.Core.Logic.{_⊎_}
 use lib.Dec.{leb}
 use Rattle.pageset.specs.declared.PageSet.{PageSet}
-use Rattle.pageset.specs.Sets.{maskAt, member}
+use Rattle.pageset.specs.Sets.{maskAt, holds, member}
 use Rattle.pageset.specs.Says.{emptySet, IsSet, Over32}
 use Rattle.rules.specs.Lists.{any}
 use Rattle.rules.specs.Records.{Pages, Commit}
@@ -17,6 +17,10 @@ use Rattle.gifts.specs.Paths.{before}
 -- these pages have no window from lo to hi
 abbrev pub Clear : ℕ → ℕ → Pages → Type 0
 Clear lo hi u = (q : ℕ) → lo ≤ q → q ≤ hi → maskAt u q ≡ 0
+
+-- no page is in both
+abbrev pub NoneShared : Pages → Pages → Type 0
+NoneShared s u = (p : ℕ) → holds s p && holds u p ≡ false
 
 -- before the first commit
 abbrev pub noneTaken : Taken
