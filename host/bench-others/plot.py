@@ -4,7 +4,7 @@ import sys
 from math import ceil, floor, log10
 
 SIZES = {"tester": "tester: 32 commits, 511 entries", "full": "full: 4,096 commits, 65,535 entries"}
-WHO = {  # colour of each, and whether it is drawn
+WHO = {  # and the colour of each
     "ours": "#1b6ca8",
     "ours, no check": "#8fc1e3",
     "Rust": "#c8553d",
@@ -21,7 +21,7 @@ def read(path):
     for line in open(path).read().splitlines()[1:]:
         call, size, who, whole, *check = line.split("\t")
         times[call, size, who] = float(whole)
-        if check and float(check[0]) < float(whole):
+        if check and not call.startswith("check"):
             without = float(whole) - float(check[0])
             if without > 0.02 * float(whole):
                 times[call, size, who + ", no check"] = without
@@ -53,7 +53,7 @@ def table(times, calls):
 
 
 def draw(times, calls):
-    left, right, top, row = 150, 30, 64, 26
+    left, right, top, row = 165, 40, 64, 26
     panel, gap = 560, 56
     height = top + len(calls) * row
     low, high = floor(log10(min(times.values()))), ceil(log10(max(times.values())))

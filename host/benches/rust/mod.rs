@@ -306,20 +306,10 @@ fn place_below(index: &[u8], high: usize, key: &[u8; 29]) -> Result<usize, usize
     Err(low)
 }
 
-/// Nanoseconds of the best of 400 rounds of two stores, made in turn; before each the tables are put back, outside of the time.
-pub fn race_stores<T: Clone>(fresh: &T, ours: impl FnMut(&mut T) -> bool, rust: impl FnMut(&mut T) -> bool) -> (f64, f64) {
-    race_rounds(400, fresh, ours, rust)
-}
-
-/// The same, of so many rounds.
-pub fn race_rounds<T: Clone>(
-    rounds: usize,
-    fresh: &T,
-    mut ours: impl FnMut(&mut T) -> bool,
-    mut rust: impl FnMut(&mut T) -> bool,
-) -> (f64, f64) {
+/// Nanoseconds of the best round of two stores, made in turn; before each the tables are put back, outside of the time.
+pub fn race_stores<T: Clone>(fresh: &T, mut ours: impl FnMut(&mut T) -> bool, mut rust: impl FnMut(&mut T) -> bool) -> (f64, f64) {
     let (mut a, mut b, mut tables) = (f64::MAX, f64::MAX, fresh.clone());
-    for _ in 0..rounds {
+    for _ in 0..400 {
         tables.clone_from(fresh);
         let start = Instant::now();
         assert!(black_box(ours(&mut tables)));

@@ -72,7 +72,7 @@ impl Args {
             page: page(r),
             last: page(r),
             name: r.bytes(length).iter().map(|b| b % 4).collect(),
-            hash: r.bytes(32).try_into().unwrap(),
+            hash: if r.below(8) == 0 { [0; 32] } else { r.bytes(32).try_into().unwrap() },
             snapshot: damaged(snapshot, r),
             commit: damaged(commit, r),
             set: damaged(set, r),
