@@ -1,9 +1,10 @@
 -- The last record of a rising batch: after all are put, what the others leave of the records below it, then it, then what was above it (`last-in`).
--- So a batch can be put in from its last record down, and each record that is held moves at most once.
+-- So a batch can be put in from its last record down, and each record that is held moves at most once; and its new keys can be counted from the last down,
+-- each sought among the records below the one before (`fresh-last`).
 use mathlib.Core.Path.{_≡_, refl, sym, ap, _∙_}
 use mathlib.Core.Bool.{true}
 use mathlib.Core.List.{List, [], _∷_, _++_, append-nil}
-use Prim.Native.Nat.{ℕ, suc, _+_, _-_, _≤_}
+use Prim.Native.Nat.{ℕ, zero, suc, _+_, _-_, _≤_}
 use native.Mathlib.Omega.{arith}
 use lib.ListN.{length, take, drop, length-append, length-drop, take-append-drop}
 use lib.Seq.{length-take-le}
@@ -12,10 +13,10 @@ use Rattle.octets.specs.declared.Order.the-variants.{Less, Equal, Greater}
 use Rattle.table.specs.Records.{cmp, rises, spotBy, spot, place, hits, past, putBy, put}
 use Rattle.table.specs.declared.Spot.{Spot}
 use Rattle.table.specs.declared.Spot.the-variants.{At, Gap}
-use Rattle.table.proofs.Keys.{less-turned, greater-turned, cmp-right, cmp-trans, rises-head, rises-tail, rises-skip, rises-take}
+use Rattle.table.proofs.Keys.{less-turned, greater-turned, cmp-right, cmp-trans, rises-head, rises-tail, rises-cons, rises-skip, rises-take}
 use Rattle.table.proofs.Spots.{past-le}
-use Rattle.batch.specs.Batch.{putAll}
-use Rattle.batch.proofs.Puts.{putAll-append, length-putAll-le}
+use Rattle.batch.specs.Batch.{putAll, lacks, fresh}
+use Rattle.batch.proofs.Puts.{putAll-append, length-putAll-le, lacks-none, lacks-append, lacks-later, fresh-append}
 
 -- every record of l is below y
 abbrev pub Below : ℕ → List (List ℕ) → List ℕ → Type 0
@@ -133,3 +134,31 @@ last-count k i d y rs l b h e c =
     let a : length (putAll k rs (take p l) ++ y ∷ drop (past (spot k y l)) l) ≡ i + d = ap length (sym (last-in k y rs l b)) ∙ c in
     let s = simp (length-append, length-drop) at a in
     (omega arith, omega arith, omega arith)
+
+-- ---- the new keys, counted from the last down
+
+rises-drop : (k i : ℕ) (l : List (List ℕ)) → rises k l ≡ true → rises k (drop i l) ≡ true
+rises-drop k zero l h = h
+rises-drop k (suc i) [] h = refl
+rises-drop k (suc i) (x ∷ l) h = rises-drop k i l (rises-tail k x l h)
+
+module _ (k : ℕ) (y : List ℕ) (l : List (List ℕ)) (h : rises k l ≡ true) where
+  -- what is below y is not among the records from y's place on
+  lacks-above : (r : List ℕ) (m : List (List ℕ)) → cmp k r y ≡ Less → Above k y m → rises k m ≡ true → lacks k r m ≡ 1
+  lacks-above r [] g a u = lacks-none k r
+  lacks-above r (x ∷ m) g a u =
+      ap (lacks k r) (sym (append-nil (x ∷ m))) ∙ lacks-later k r (x ∷ m) [] (rises-cons k r x m (a r g) u) ∙ lacks-none k r
+
+  lacks-below : (r : List ℕ) → cmp k r y ≡ Less → lacks k r l ≡ lacks k r (take (place (spot k y l)) l)
+  lacks-below r g =
+      let p : ℕ = place (spot k y l) in
+      let one : lacks k r (drop p l) ≡ 1 = lacks-above r (drop p l) g (above-spot k y l) (rises-drop k p l h) in
+      ap (lacks k r) (sym (take-append-drop p l)) ∙ lacks-append k r (take p l) (drop p l) ∙ rw one (omega arith)
+
+  fresh-below : (rs : List (List ℕ)) → Below k rs y → fresh k rs l ≡ fresh k rs (take (place (spot k y l)) l)
+  fresh-below [] b = refl
+  fresh-below (r ∷ rs) b = omega (arith, lacks-below r (b .0), fresh-below rs (b .1))
+
+  -- of a rising batch: its last key, and the others among the records below it
+  pub fresh-last : (rs : List (List ℕ)) → rises k (rs ++ y ∷ []) ≡ true → fresh k (rs ++ y ∷ []) l ≡ lacks k y l + fresh k rs (take (place (spot k y l)) l)
+  fresh-last rs u = omega (arith, fresh-append k rs (y ∷ []) l, fresh-below rs (all-below k y rs u))

@@ -162,7 +162,7 @@ room-news s k rs t w =
     (length-putAll k rs (recs s t) (well-rises s k t w) ∙ ap (λ (m : ℕ). m + news k rs (recs s t)) (length-recs s t)))
 
 -- a rising batch names no key twice
-lacks-later : (k : ℕ) (r : List ℕ) (rs l : List (List ℕ)) → rises k (r ∷ rs) ≡ true → lacks k r (rs ++ l) ≡ lacks k r l
+pub lacks-later : (k : ℕ) (r : List ℕ) (rs l : List (List ℕ)) → rises k (r ∷ rs) ≡ true → lacks k r (rs ++ l) ≡ lacks k r l
 lacks-later k r [] l h = refl
 lacks-later k r (y ∷ rs) l h =
     lacks-cons-other k r y (rs ++ l) (less-not-equal (cmp k r y) (rises-head k r y rs h)) ∙ lacks-later k r rs l (rises-skip k r y rs h)

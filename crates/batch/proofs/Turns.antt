@@ -12,26 +12,32 @@ use Rattle.octets.specs.Order.{lex, isEqual}
 use Rattle.octets.specs.declared.Order.the-variants.{Equal}
 use Rattle.octets.proofs.Orders as O
 use Rattle.octets.proofs.Places as P
-use Rattle.table.specs.Records.{cmp, spot, put}
-use Rattle.table.specs.Table.{runs, Each, capOf, recs, laid, wellOrdered, holds, fits}
+use Rattle.table.specs.Records.{cmp, rises, spot, place, put}
+use Rattle.table.specs.Table.{runs, Each, countOf, capOf, recs, laid, wellOrdered, holds, fits}
 use Rattle.table.specs.declared.Spot.{Spot}
 use Rattle.table.specs.declared.Spot.the-variants.{At, Gap}
 use Rattle.table.proofs.Rows.{rows-lt, rows-le, rows-sub, take-runs, runs-first, runs-last, each-runs, key-at, cap-room, fits-cap, each-recs, laid-laid, laid-self}
 use Rattle.table.proofs.Checks.{well-two, well-rises, well-room}
-use Rattle.table.proofs.Ends.{found-at, found-gap, holds-true, Holds, laid-holds}
+use Rattle.table.proofs.Spots.{look-at, look-gap}
+use Rattle.table.proofs.Ends.{holds-true, Holds, laid-holds}
 use Rattle.batch.specs.Batch.{putAll, gone, lacks, news, fresh}
 use Rattle.batch.proofs.Puts.{each-putAll, rises-putAll, putAll-append, lacks-cons-same, lacks-cons-other, lacks-none, lacks-append, length-putAll-take}
 
--- ---- `lacking`
+-- ---- `lacking_below`
 
-module _ (s k : ℕ) (t key : List ℕ) (i : ℕ) (o : Spot) (f : o ≡ spot k key (recs s t)) where
-  pub lacks-at : o ≡ At i → 0 ≡ lacks k key (recs s t)
+module _ (k : ℕ) (key : List ℕ) (l : List (List ℕ)) (i : ℕ) (o : Spot) (f : o ≡ spot k key l) where
+  pub lacks-at : o ≡ At i → (i ≡ place (spot k key l)) × (0 ≡ lacks k key l)
   unfolding lacks
-  lacks-at e = sym (ap gone (found-at s k t key i o f e))
+  lacks-at e = (sym (ap place (sym f ∙ e)), sym (ap gone (look-at k key l i (sym f ∙ e))))
 
-  pub lacks-gap : wellOrdered s k t ≡ true → o ≡ Gap i → 1 ≡ lacks k key (recs s t)
+  pub lacks-gap : rises k l ≡ true → o ≡ Gap i → (i ≡ place (spot k key l)) × (1 ≡ lacks k key l)
   unfolding lacks
-  lacks-gap w e = sym (ap gone (found-gap s k t key i o f w e))
+  lacks-gap h e = (sym (ap place (sym f ∙ e)), sym (ap gone (look-gap k key l i h (sym f ∙ e))))
+
+-- among all records
+pub lacks-all : (s k : ℕ) (t key : List ℕ) (n r : ℕ) → n ≡ countOf t → r ≡ lacks k key (runs n s 2 t) → r ≡ lacks k key (recs s t)
+unfolding recs
+lacks-all s k t key n r e f = f ∙ ap (λ (m : ℕ). lacks k key (runs m s 2 t)) e
 
 -- ---- what is left of a batch
 

@@ -6,9 +6,33 @@ ghost use mathlib.Core.List.{_++_};
 ghost use lib.ListN.{length, take, drop};
 ghost use Rattle.octets.specs.Bytes.{part};
 ghost use Rattle.octets.specs.Bytes as B;
-ghost use Rattle.table.specs.Records.{rises, spot, hits};
+ghost use Rattle.table.specs.Records.{rises, spot, place, hits};
 ghost use Rattle.table.specs.Table.{runs, countOf, recs, laid, wellOrdered, fits};
 ghost use Rattle.batch.specs.Batch.{putAll, lacks, news, fresh, lifted, Merged};
+
+// What a count from the back knows of a key: how many records stand before its place, and 1 where none has the key, else 0.
+pub struct Passed {
+    pub held: usize,
+    pub lacking: usize,
+}
+
+// One step of a count from the back, among the first `held` records: keys below this one stand before its place.
+pub fn lacking_below(t: &[u8], stride: usize, klen: usize, held: usize, key: &[u8]) -> Passed
+    requires { ⌜ (klen ≤ stride) × (klen ≤ length (now key)) × (2 + held * stride ≤ length (now t)) × (held < 65536) ⌝ }
+    requires { ⌜ rises klen (runs held stride 2 (now t)) ≡ true ⌝ }
+    ensures { λ r. ⌜ (r .held ≡ place (spot klen (now (key .entry)) (runs held stride 2 (now (t .entry))))) × (r .lacking ≡ lacks klen (now (key .entry)) (runs held stride 2 (now (t .entry)))) × (r .lacking ≤ 1) ⌝ }
+{
+    match table::find_in(t, stride, klen, held, key) {
+        table::Spot::At(i) => Passed {
+            held: i,
+            lacking: 0,
+        },
+        table::Spot::Gap(i) => Passed {
+            held: i,
+            lacking: 1,
+        },
+    }
+}
 
 // 1 where no record of t has that key, else 0.
 pub fn lacking(t: &[u8], stride: usize, klen: usize, key: &[u8]) -> usize
@@ -16,10 +40,7 @@ pub fn lacking(t: &[u8], stride: usize, klen: usize, key: &[u8]) -> usize
     requires { ⌜ wellOrdered stride klen (now t) ≡ true ⌝ }
     ensures { λ r. ⌜ (r ≡ lacks klen (now (key .entry)) (recs stride (now (t .entry)))) × (r ≤ 1) ⌝ }
 {
-    match table::find(t, stride, klen, key) {
-        table::Spot::At(_) => 0,
-        table::Spot::Gap(_) => 1,
-    }
+    lacking_below(t, stride, klen, table::count(t), key).lacking
 }
 
 // How many of the n records of a batch have a key that is not in t; of a rising batch, its distinct new keys.

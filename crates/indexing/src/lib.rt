@@ -25,7 +25,7 @@ fn with_page(row: [u8; 29], page: u32) -> [u8; 29]
     e
 }
 
-// How many of the entries have a key that the index t lacks.
+// How many of the entries have a key that the index t lacks: each is sought below the place of the one before.
 pub fn count_entries(t: &[u8], log: LogId, lsn: Lsn, set: PageSet) -> usize
     requires { ⌜ wellOrdered 29 29 (now t) ≡ true ⌝ }
     requires { ⌜ normal set ≡ true ⌝ }
@@ -34,13 +34,16 @@ pub fn count_entries(t: &[u8], log: LogId, lsn: Lsn, set: PageSet) -> usize
     let row = entries::entry_key(log, PageIdx(0), lsn);
     let ws = set.windows;
     let mut c: usize = 0;
+    let mut held = table::count(t);
     let mut i = set.len;
     let mut w = Window { index: 0, mask: 0 };
     let mut n = sets::cardinality(set).0;
     while 0 < n {
         let step = pagesdown::next_down(i, w, ws[pagesdown::last_place(i)]);
         let e = with_page(row, step.page);
-        c += batch::lacking(t, ENTRY, ENTRY, &e);
+        let passed = batch::lacking_below(t, ENTRY, ENTRY, held, &e);
+        c += passed.lacking;
+        held = passed.held;
         i = step.windows;
         w = step.rest;
         n -= 1;

@@ -1,8 +1,8 @@
 -- The laws of `be`, `bytesOf` and `down`. Everything follows from `be` of two runs joined, and from `bytesOf` cut in two.
 use mathlib.Core.Path.{_≡_, refl, sym, ap, ap₂, _∙_}
-use mathlib.Core.List.{List, [], _∷_, _++_}
+use mathlib.Core.List.{List, [], _∷_, _++_, reverse, reverse-reverse}
 use Prim.Native.Nat.{ℕ, zero, suc, _+_, _-_, _*_, _/_, _%_, _^_, _<_}
-use native.Mathlib.Nat.{pow-suc, pow-succ', add-mul, mul-assoc, add-assoc, zero-mul, zero-add, suc-add, mod-one, mod-lt, mod-eq-of-lt, mul-add-div-right, mul-add-mod-self-right, div-div-eq-div-mul, div-add-mod', mul-comm}
+use native.Mathlib.Nat.{pow-suc, pow-succ', add-mul, mul-assoc, add-assoc, zero-mul, zero-add, suc-add, mod-one, mod-lt, mod-eq-of-lt, mul-add-div-right, mul-add-mod-self-right, div-div-eq-div-mul, div-add-mod', mul-comm, div-one}
 use native.Mathlib.Omega.{arith}
 use lib.ListN.{length, length-append}
 use lib.Pow.{pow-add}
@@ -129,3 +129,34 @@ down-be xs b =
 -- numbers of k bytes with the same falling bytes are the same
 pub down-same : (k m n : ℕ) → m < 256 ^ k → n < 256 ^ k → down k m ≡ down k n → m ≡ n
 down-same k m n p q e = let h : 256 ^ k - 1 - m ≡ 256 ^ k - 1 - n = sym (be-down k m) ∙ ap be e ∙ be-down k n in omega arith
+
+-- ---- four bytes from the last to the first
+
+four-bytes : (a b c d : ℕ) → a < 256 → b < 256 → c < 256 → d < 256 → AreBytes (a ∷ b ∷ c ∷ d ∷ [])
+four-bytes a b c d p q r t zero = p
+four-bytes a b c d p q r t (suc zero) = q
+four-bytes a b c d p q r t (suc (suc zero)) = r
+four-bytes a b c d p q r t (suc (suc (suc zero))) = t
+four-bytes a b c d p q r t (suc (suc (suc (suc i)))) = lit< tt
+
+spelled : (a b c d : ℕ) → d * 16777216 + c * 65536 + b * 256 + a ≡ be (d ∷ c ∷ b ∷ a ∷ [])
+unfolding be
+spelled a b c d = omega arith
+
+-- the number that has the first byte as its lowest
+pub lowest-first : (a b c d : ℕ) → a < 256 → b < 256 → c < 256 → d < 256 → bytesOf 4 (a + 256 * (b + 256 * (c + 256 * d))) ≡ reverse (a ∷ b ∷ c ∷ d ∷ [])
+lowest-first a b c d p q r t =
+    let e : a + 256 * (b + 256 * (c + 256 * d)) ≡ be (d ∷ c ∷ b ∷ a ∷ []) = omega (arith, spelled a b c d) in
+    ap (bytesOf 4) e ∙ bytesOf-be (d ∷ c ∷ b ∷ a ∷ []) (four-bytes d c b a t r q p)
+
+-- the number that has the last byte of v as its highest
+pub last-first : (v : ℕ) → v < 2 ^ 32 → v % 256 * 16777216 + v / 256 % 256 * 65536 + v / 65536 % 256 * 256 + v / 16777216 ≡ be (reverse (bytesOf 4 v))
+unfolding bytesOf
+last-first v h =
+    let top : v / 16777216 < 256 = omega arith in
+    spelled (v / 16777216) (v / 65536 % 256) (v / 256 % 256) (v % 256)
+    ∙ ap₂ (λ (x y : ℕ). be (x ∷ v / 256 % 256 ∷ v / 65536 % 256 ∷ y ∷ [])) (sym (ap (λ (n : ℕ). n % 256) (div-one v))) (sym (mod-eq-of-lt top))
+
+-- bytes turned twice
+pub turned-twice : (v : ℕ) (xs : List ℕ) → bytesOf 4 v ≡ reverse xs → be (reverse (bytesOf 4 v)) ≡ be xs
+turned-twice v xs e = ap (λ (l : List ℕ). be (reverse l)) e ∙ ap be (reverse-reverse xs)

@@ -1,7 +1,7 @@
 -- The laws of `part` and `put`: lengths, a part of a part, a part of what was put, several puts, and the number at a place.
 use mathlib.Core.Path.{_≡_, refl, sym, ap, ap₂, _∙_, subst}
 use mathlib.Core.Bool.{Bool, true, false, cond}
-use mathlib.Core.List.{List, [], _∷_, _++_, append-assoc, append-nil}
+use mathlib.Core.List.{List, [], _∷_, _++_, append-assoc, append-nil, reverse}
 use Prim.Native.Nat.{ℕ, zero, suc, _+_, _-_, _*_, _/_, _%_, _^_, _≤_, _<_}
 use native.Mathlib.Nat.{le-refl, add-assoc, add-zero, zero-add, div-one, mod-eq-of-lt}
 use native.Mathlib.Numerals.{add-one}
@@ -77,6 +77,16 @@ part-more at k xs h = part-add at k 1 xs ∙ ap (λ (r : List ℕ). part at k xs
 pub part-less : (at k : ℕ) (xs : List ℕ) → at < length xs → part at (suc k) xs ≡ getD xs at 0 ∷ part (at + 1) k xs
 unfolding part
 part-less at k xs h = ap (take (suc k)) (drop-cons xs at 0 h) ∙ ap (λ (n : ℕ). getD xs at 0 ∷ take k (drop n xs)) (sym (add-one at))
+
+-- four elements
+pub part-four : (at : ℕ) (xs : List ℕ) → at + 4 ≤ length xs → part at 4 xs ≡ getD xs at 0 ∷ getD xs (at + 1) 0 ∷ getD xs (at + 2) 0 ∷ getD xs (at + 3) 0 ∷ []
+part-four at xs h =
+    let two : at + 1 + 1 ≡ at + 2 = omega arith in
+    let three : at + 2 + 1 ≡ at + 3 = omega arith in
+    let d : part (at + 3) 1 xs ≡ getD xs (at + 3) 0 ∷ [] = part-one (at + 3) xs (omega arith) in
+    let c : part (at + 2) 2 xs ≡ getD xs (at + 2) 0 ∷ getD xs (at + 3) 0 ∷ [] = part-less (at + 2) 1 xs (omega arith) ∙ ap (λ (n : ℕ). getD xs (at + 2) 0 ∷ part n 1 xs) three ∙ ap (λ (l : List ℕ). getD xs (at + 2) 0 ∷ l) d in
+    let b : part (at + 1) 3 xs ≡ getD xs (at + 1) 0 ∷ getD xs (at + 2) 0 ∷ getD xs (at + 3) 0 ∷ [] = part-less (at + 1) 2 xs (omega arith) ∙ ap (λ (n : ℕ). getD xs (at + 1) 0 ∷ part n 2 xs) two ∙ ap (λ (l : List ℕ). getD xs (at + 1) 0 ∷ l) c in
+    part-less at 3 xs (omega arith) ∙ ap (λ (l : List ℕ). getD xs at 0 ∷ l) b
 
 within : (k j n : ℕ) (xs : List ℕ) → j + k ≤ n → take k (drop j (take n xs)) ≡ take k (drop j xs)
 within k zero n xs h = take-take k n xs (omega arith)
@@ -340,6 +350,13 @@ be-part-lt at k s b h = subst (λ (n : ℕ). be (part at k s) < 256 ^ n) (length
 -- the bytes at a place are the bytes of their number
 pub bytes-at : (at k : ℕ) (s : List ℕ) → AreBytes s → at + k ≤ length s → bytesOf k (be (part at k s)) ≡ part at k s
 bytes-at at k s b h = ap (λ (n : ℕ). bytesOf n (be (part at k s))) (sym (length-part at k s h)) ∙ N.bytesOf-be (part at k s) (bytes-part at k s b)
+
+-- four bytes at a place, the first the lowest of a number
+pub turned-at : (at a b c d : ℕ) (s : List ℕ) → at + 4 ≤ length s → (a ≡ getD s at 0) × (a < 256) → (b ≡ getD s (at + 1) 0) × (b < 256) → (c ≡ getD s (at + 2) 0) × (c < 256) → (d ≡ getD s (at + 3) 0) × (d < 256)
+    → bytesOf 4 (a + 256 * (b + 256 * (c + 256 * d))) ≡ reverse (part at 4 s)
+turned-at at a b c d s h p q r t =
+    let e : part at 4 s ≡ a ∷ b ∷ c ∷ d ∷ [] = part-four at s h ∙ (cc) in
+    N.lowest-first a b c d (p .1) (q .1) (r .1) (t .1) ∙ sym (ap reverse e)
 
 -- a number read where it was stored
 pub load-store : (at k v : ℕ) (s : List ℕ) → v < 256 ^ k → at + k ≤ length s → be (part at k (put at (bytesOf k v) s)) ≡ v

@@ -1,5 +1,6 @@
 // Bytes at places of a lent slice: big-endian numbers, runs of bytes, the order of byte strings, and moves.
 ghost use mathlib.Core.Path.{_≡_};
+ghost use mathlib.Core.List.{reverse};
 ghost use Prim.Native.Nat.{_+_, _*_, _%_, _≤_, _<_};
 ghost use lib.ListN.{length};
 ghost use Rattle.octets.specs.Bytes.{be, bytesOf, part, put, allZero};
@@ -35,12 +36,27 @@ pub fn load16(s: &[u8], at: usize) -> usize
     (wide(s[at]) * 256 + wide(s[at + 1])) as usize
 }
 
-// The four bytes at a place.
+// The number whose four bytes are those at a place from the last to the first: the processor has it by one load.
+fn load_turned(s: &[u8], at: usize) -> u32
+    requires { ⌜ at + 4 ≤ length (now s) ⌝ }
+    ensures { λ r. ⌜ bytesOf 4 r ≡ reverse (part at 4 (now (s .entry))) ⌝ }
+{
+    wide(s[at]) + 256 * (wide(s[at + 1]) + 256 * (wide(s[at + 2]) + 256 * wide(s[at + 3])))
+}
+
+// The number whose four bytes are those of v from the last to the first.
+fn turned(v: u32) -> u32
+    ensures { λ r. ⌜ r ≡ be (reverse (bytesOf 4 v)) ⌝ }
+{
+    v % 256 * 16777216 + v / 256 % 256 * 65536 + v / 65536 % 256 * 256 + v / 16777216
+}
+
+// The four bytes at a place: one load and one turn, which no test of the number takes apart again.
 pub fn load32(s: &[u8], at: usize) -> u32
     requires { ⌜ at + 4 ≤ length (now s) ⌝ }
     ensures { λ r. ⌜ r ≡ be (part at 4 (now (s .entry))) ⌝ }
 {
-    ((wide(s[at]) * 256 + wide(s[at + 1])) * 256 + wide(s[at + 2])) * 256 + wide(s[at + 3])
+    turned(load_turned(s, at))
 }
 
 // The eight bytes at a place, as two halves.

@@ -2,20 +2,18 @@
 use mathlib.Core.Path.{_≡_, sym, ap, _∙_}
 use mathlib.Core.Bool.{Bool, true}
 use mathlib.Core.List.{List}
-use mathlib.Core.Option.{some, none}
 use Prim.Native.Nat.{ℕ, _+_, _-_, _*_, _/_, _≤_, _<_, min}
 use native.Mathlib.Omega.{arith}
 use native.Mathlib.Decide.{decLt}
 use lib.ListN.{length, set}
 use lib.Dec.{leb}
 use borrow.Author.Tests.{le-leb, lt-leb}
-use Rattle.octets.specs.Bytes.{part}
-use Rattle.table.specs.Records.{rises, spot, look, inserted, removed, put}
+use Rattle.table.specs.Records.{rises, spot, inserted, removed, put}
 use Rattle.table.specs.Table.{Each, countOf, capOf, recs, laid, wellOrdered, holds, fits}
 use Rattle.table.specs.declared.Spot.{Spot}
 use Rattle.table.specs.declared.Spot.the-variants.{At, Gap}
-use Rattle.table.proofs.Rows.{rows-lt, cap-small, cap-room, room-cap, fits-cap, length-recs, each-recs, recs-at, length-laid, countOf-laid, recs-laid}
-use Rattle.table.proofs.Spots.{at-lt, gap-le, put-at, put-gap, length-put-at, length-put-gap, length-put-le, each-put, rises-put, each-removed, rises-removed, length-removed, look-at, look-gap}
+use Rattle.table.proofs.Rows.{rows-lt, cap-small, cap-room, room-cap, fits-cap, length-recs, each-recs, length-laid, countOf-laid, recs-laid}
+use Rattle.table.proofs.Spots.{at-lt, gap-le, put-at, put-gap, length-put-at, length-put-gap, length-put-le, each-put, rises-put, each-removed, rises-removed, length-removed}
 use Rattle.table.proofs.Checks.{well-two, well-count, well-rises, well-room, well-made}
 
 -- ---- room
@@ -79,12 +77,6 @@ module _ (s k : ℕ) (t r : List ℕ) (i : ℕ) (o : Spot) (f : o ≡ spot k r (
   -- the bytes of the record that was found are within t
   pub at-room : 0 < s → wellOrdered s k t ≡ true → o ≡ At i → 2 + i * s + s ≤ length t
   at-room p w e = omega (arith, rows-lt s (at-in e), well-room s k t p w)
-
-  pub found-at : o ≡ At i → look k r (recs s t) ≡ some (part (2 + i * s) s t)
-  found-at e = look-at k r (recs s t) i (sym f ∙ e) ∙ ap some (recs-at s t i (at-in e))
-
-  pub found-gap : wellOrdered s k t ≡ true → o ≡ Gap i → look k r (recs s t) ≡ none
-  found-gap w e = look-gap k r (recs s t) i (well-rises s k t w) (sym f ∙ e)
 
 -- ---- a table that was laid
 

@@ -30,7 +30,7 @@ module _ (cs ks es b : List ℕ) where
     pub room : logsFit (write (logsIn cs ks es) (commitIn b)) ≡ true
     pub answers : lent (logsOk cs ks es) (writeIn (logsIn cs ks es) b) ≡ done (write (logsIn cs ks es) (commitIn b))
 
-  abbrev answer : Answer Logs
+  abbrev pub answer : Answer Logs
   answer = lent (logsOk cs ks es) (writeIn (logsIn cs ks es) b)
 
   passed : code answer ≡ 0 → Passed
@@ -79,7 +79,7 @@ module _ (cs ks es b : List ℕ) (p : Plan) (e : p ≡ planned (answer cs ks es 
 
 -- ---- what a call leaves
 
-abbrev Left : (cs ks es u v w : List ℕ) (n : ℕ) → Answer Logs → Type 0
+abbrev pub Left : (cs ks es u v w : List ℕ) (n : ℕ) → Answer Logs → Type 0
 Left cs ks es u v w n a =
     (n ≡ code a) × ((u ≡ after commitBytes (λ (g : Logs). g .commits) cs a)
     × ((v ≡ after checkpointBytes (λ (g : Logs). g .checkpoints) ks a) × (w ≡ after entryBytes (λ (g : Logs). g .index) es a)))

@@ -20,10 +20,10 @@ ghost use mathlib.Core.Bool.{true};
 ghost use Rattle.core.specs.Answers.{code};
 ghost use Rattle.core.specs.Orders.{logLsn, logPageLsn};
 ghost use Rattle.layout.specs.Records.{checkpointBytes, entryBytes, commitBytes};
-ghost use Rattle.layout.specs.Tables.{commitsOk, checkpointsIn, checkpointsOk, indexIn, indexOk, laidOver};
+ghost use Rattle.layout.specs.Tables.{commitsIn, commitsOk, checkpointsIn, checkpointsOk, indexIn, indexOk, laidOver};
 ghost use Rattle.layout.specs.Lent.{lent, after};
-ghost use Rattle.rules.specs.Records.{checkpointKey, entryKey};
-ghost use Rattle.rules.specs.Tables.{fits, storeAll};
+ghost use Rattle.rules.specs.Records.{commitKey, checkpointKey, entryKey};
+ghost use Rattle.rules.specs.Tables.{fits, store, storeAll};
 ghost use Rattle.rules.specs.Write.{pagesOf, checkpointsOf, entriesOf, Logs, write, logsFit};
 ghost use Rattle.setbytes.specs.Laid.{setLaid};
 ghost use Rattle.writecalls.specs.Written.{IsCommit, commitIn, logsIn, logsOk, freshIn, roomed, planned, writeIn};
@@ -50,6 +50,14 @@ pub fn commit_pages(c: &[u8]) -> PageSet
         return sets::empty();
     }
     set_read(c, PAGES)
+}
+
+// Whether the commits have room for a commit: it replaces one, or one more fits.
+fn room_for_commit(t: &[u8], c: &[u8]) -> bool
+    requires { ⌜ (commitsOk (now t) ≡ true) × IsCommit (now c) ⌝ }
+    ensures { λ r. ⌜ r ≡ fits (store commitKey logLsn (commitIn (now (c .entry))) (commitsIn (now (t .entry)))) ⌝ }
+{
+    table::room(t, COMMIT, COMMIT_KEY, c)
 }
 
 // Whether the checkpoints have room for those of a commit.
@@ -113,7 +121,7 @@ fn room_plan(commits: &[u8], checkpoints: &[u8], index: &[u8], c: &[u8]) -> Plan
     requires { ⌜ IsCommit (now c) ⌝ }
     ensures { λ r. ⌜ r ≡ planned (roomed (write (logsIn (now (commits .entry)) (now (checkpoints .entry)) (now (index .entry))) (commitIn (now (c .entry))))) (freshIn (now (index .entry)) (commitIn (now (c .entry)))) ⌝ }
 {
-    if !table::room(commits, COMMIT, COMMIT_KEY, c) {
+    if !room_for_commit(commits, c) {
         return refused_plan(19);
     }
     if !room_for_checkpoints(checkpoints, c) {

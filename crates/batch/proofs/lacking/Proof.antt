@@ -1,28 +1,24 @@
--- `batch::lacking` meets its contract: none is lacking where the key is found.
-use borrow.Author.Needs.{needs}
+-- `batch::lacking` meets its contract: all records are the first `count`.
 use native.Mathlib.Omega.{arith}
-use Rattle.batch.proofs.Turns.{lacks-at, lacks-gap}
+use Rattle.table.proofs.Checks.{well-two, ready}
+use Rattle.batch.proofs.Turns.{lacks-all}
 use Rattle.batch.proofs.lacking.Statement.{statement}
 use Rattle.batch.proofs.lacking.Tie as tie
 
-find-requires : tie.Need-find-requires
-find-requires c κs = search needs
+count-requires : tie.Need-count-requires
+count-requires c κs = well-two (c .before .before .args .stride) (c .before .before .args .klen) (c .before .before .args .t .now) (c .before .before .pre .1)
 
-enum-told : tie.Need-enum-told
-enum-told c = search needs
-
-enum-told-2 : tie.Need-enum-told-2
-enum-told-2 c = search needs
+lacking-below-requires : tie.Need-lacking-below-requires
+lacking-below-requires c κs =
+    let a = c .before .before .before .args in
+    let p = c .before .before .before .pre in
+    let z = ready (a .stride) (a .klen) (a .t .now) (p .0 .0) (p .1) _ (c .count .ensures .0) in
+    ((p .0 .1, p .0 .2, z .0, c .count .ensures .1), z .1)
 
 returns : tie.Need-returns
 returns c =
-    let a = c .before .before .before .before .before .args in
-    (lacks-at (a .stride) (a .klen) (a .t .now) (a .key .now) _ _ (c .before .before .find .ensures) (c .enum-told .given .1), omega arith)
-
-returns-2 : tie.Need-returns-2
-returns-2 c =
-    let a = c .before .before .before .before .before .args in
-    (lacks-gap (a .stride) (a .klen) (a .t .now) (a .key .now) _ _ (c .before .before .find .ensures) (c .before .before .before .before .before .pre .1) (c .enum-told2 .given .1), omega arith)
+    let a = c .before .before .before .before .args in
+    (lacks-all (a .stride) (a .klen) (a .t .now) (a .key .now) _ _ (c .before .count .ensures .0) (c .lacking-below .ensures .1), c .lacking-below .ensures .2)
 
 pub lacking-spec : {M : Type 1} → statement M
-lacking-spec = tie.close (tie.spec find-requires enum-told enum-told-2 returns returns-2)
+lacking-spec = tie.close (tie.spec count-requires lacking-below-requires returns)

@@ -1,89 +1,21 @@
--- `octets::load32` meets its contract, by the law of one byte more, three times.
+-- `octets::load32` meets its contract: bytes turned twice are as they were.
 use borrow.Author.Needs.{needs}
-use native.Mathlib.Omega.{arith}
-use Rattle.octets.proofs.Places.{be-at, be-more}
+use mathlib.Core.Path.{_∙_}
+use Rattle.octets.specs.Bytes.{part}
+use Rattle.octets.proofs.Numbers.{turned-twice}
 use Rattle.octets.proofs.load32.Statement.{statement}
 use Rattle.octets.proofs.load32.Tie as tie
 
-shared-slice-read-wide : tie.Need-shared-slice-read-wide
-shared-slice-read-wide c = search needs
+load-turned-requires : tie.Need-load-turned-requires
+load-turned-requires c κs = search needs
 
-wide-requires : tie.Need-wide-requires
-wide-requires c κs = search needs
-
-mul-result : tie.Need-mul-result
-mul-result c = search needs
-
-add-wide : tie.Need-add-wide
-add-wide c = search needs
-
-shared-slice-read-wide-2 : tie.Need-shared-slice-read-wide-2
-shared-slice-read-wide-2 c = search needs
-
-wide-requires-2 : tie.Need-wide-requires-2
-wide-requires-2 c κs = search needs
-
-add-result : tie.Need-add-result
-add-result c = search needs
-
-mul-result-2 : tie.Need-mul-result-2
-mul-result-2 c = search needs
-
-add-wide-2 : tie.Need-add-wide-2
-add-wide-2 c = search needs
-
-shared-slice-read-wide-3 : tie.Need-shared-slice-read-wide-3
-shared-slice-read-wide-3 c = search needs
-
-wide-requires-3 : tie.Need-wide-requires-3
-wide-requires-3 c κs = search needs
-
-add-result-2 : tie.Need-add-result-2
-add-result-2 c = search needs
-
-mul-result-3 : tie.Need-mul-result-3
-mul-result-3 c = search needs
-
-add-wide-3 : tie.Need-add-wide-3
-add-wide-3 c = search needs
-
-shared-slice-read-wide-4 : tie.Need-shared-slice-read-wide-4
-shared-slice-read-wide-4 c = search needs
-
-wide-requires-4 : tie.Need-wide-requires-4
-wide-requires-4 c κs = search needs
-
-add-result-3 : tie.Need-add-result-3
-add-result-3 c = search needs
+turned-requires : tie.Need-turned-requires
+turned-requires c κs = search needs
 
 returns : tie.Need-returns
 returns c =
-    let a = c .before .before .before .before .before .before .before .before .before .args in
-    let one = be-at (a .at) (a .s .now) (omega arith) in
-    let two = be-more (a .at) 1 (a .s .now) (omega arith) in
-    let three = be-more (a .at) 2 (a .s .now) (omega arith) in
-    let four = be-more (a .at) 3 (a .s .now) (omega arith) in
-    omega arith
+    let a = c .before .before .before .args in
+    c .turned .ensures ∙ turned-twice (c .before .load-turned .result) (part (a .at) 4 (a .s .now)) (c .before .load-turned .ensures)
 
 pub load32-spec : {M : Type 1} → statement M
-load32-spec =
-    tie.close
-    (tie.spec
-    shared-slice-read-wide
-    wide-requires
-    mul-result
-    add-wide
-    shared-slice-read-wide-2
-    wide-requires-2
-    add-result
-    mul-result-2
-    add-wide-2
-    shared-slice-read-wide-3
-    wide-requires-3
-    add-result-2
-    mul-result-3
-    add-wide-3
-    shared-slice-read-wide-4
-    wide-requires-4
-    add-result-3
-    returns)
+load32-spec = tie.close (tie.spec load-turned-requires turned-requires returns)
