@@ -1,8 +1,10 @@
-// What the demands say of the public calls, over their contracts.
+// What the demands say of the exported functions: each function here makes calls, and has the demand as its contract.
+pub mod saving;
+pub mod syncing;
+
 use arguments::Reply;
-use core::pageidx::PageIdx;
-use searchcalls::search;
-use walkcalls::walk;
+use boundary::searchcall::sigatuda_search;
+use boundary::walkcall::sigatuda_walk;
 ghost use mathlib.Core.Path.{_≡_};
 ghost use Prim.Native.Nat.{_≤_};
 ghost use Rattle.arguments.specs.Replies.{none-under};
@@ -22,16 +24,16 @@ pub fn search_and_walk(
     commits: &[u8],
     index: &[u8],
     snapshot: &[u8],
-    page: PageIdx,
+    page: u32,
     out: &mut [u8],
     list: &mut [u8],
     items: &mut u32,
 ) -> Answers
-    requires { ⌜ Supposed (now commits) (now index) (now snapshot) (now out) (page .0) ⌝ }
-    ensures { λ r. ⌜ Finds (commitsIn (now (commits .entry))) (snapshotIn (now (snapshot .entry)) .path) (page .0) (now (out .entry)) (r .found, now (out .exit)) ⌝ }
-    ensures { λ r. ⌜ (page .0 ≤ snapshotIn (now (snapshot .entry)) .count → (r .walked ≡ none-under 19 → ⊥) → Gives (commitsIn (now (commits .entry))) (snapshotIn (now (snapshot .entry)) .path) (page .0) (now (list .entry)) (r .walked, (now (list .exit), now (items .exit))) (now (out .entry)) (r .found, now (out .exit))) ⌝ }
+    requires { ⌜ Supposed (now commits) (now index) (now snapshot) (now out) page ⌝ }
+    ensures { λ r. ⌜ Finds (commitsIn (now (commits .entry))) (snapshotIn (now (snapshot .entry)) .path) page (now (out .entry)) (r .found, now (out .exit)) ⌝ }
+    ensures { λ r. ⌜ (page ≤ snapshotIn (now (snapshot .entry)) .count → (r .walked ≡ none-under 19 → ⊥) → Gives (commitsIn (now (commits .entry))) (snapshotIn (now (snapshot .entry)) .path) page (now (list .entry)) (r .walked, (now (list .exit), now (items .exit))) (now (out .entry)) (r .found, now (out .exit))) ⌝ }
 {
-    let found = search(commits, index, snapshot, page, out);
-    let walked = walk(commits, snapshot, list, items);
+    let found = sigatuda_search(commits, index, snapshot, page, out);
+    let walked = sigatuda_walk(commits, snapshot, list, items);
     Answers { found, walked }
 }

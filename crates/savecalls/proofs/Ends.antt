@@ -42,7 +42,7 @@ leaves-same cs ks es ps out a b e n u x y w z h = subst (λ (q : Answer Saved). 
 
 -- ---- the reply of a number
 
-reply-code : (n : ℕ) → numberedReply n .code ≡ n
+pub reply-code : (n : ℕ) → numberedReply n .code ≡ n
 reply-code n = cases (eqb n 0) (λ e. rw e (sym (eqb-true n 0 e))) (λ e. rw e)
 
 pub replied : (cs ks es ps out : List ℕ) (a : Answer Saved) (n : ℕ) (u x y w z : List ℕ) (r : Reply) → Leaves cs ks es ps out a n u x y w z → r ≡ numberedReply n
