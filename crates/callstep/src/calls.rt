@@ -70,9 +70,9 @@ pub fn snap(volumes: &[u8], commits: &[u8], slots: &mut [u8], vid: u8, slot: u8)
     ensures { λ _. ⌜ now (slots .exit) ≡ slotsAfter slot (now (slots .entry)) (snapOn (now (volumes .entry)) (now (commits .entry)) vid) ⌝ }
 {
     let a = viewcalls::snapshot(volumes, commits, id_of(vid));
-    let code = a.code;
-    if code != 0 {
-        return coded(code);
+    let refusal = a.code;
+    if refusal != 0 {
+        return coded(refusal);
     }
     let s = a.snapshot;
     slots::put(slots, slot, s);
