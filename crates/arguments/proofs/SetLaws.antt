@@ -30,7 +30,8 @@ use Rattle.pageset.specs.Rules.{newRule, cutRule, leftRule}
 use Rattle.setbytes.specs.Laid.{setLaid}
 use Rattle.setbytes.proofs.LaidLaws.{laid-normal}
 use Rattle.arguments.specs.Args.{argument, notASet, setArg}
-use Rattle.arguments.specs.Sets.{sized, told, AreSet, SetLeft, SetLeftOr22, LeavesSet, LeavesSetOr22, LeavesCut, early, setPut, cutPut}
+use Rattle.layout.specs.Lent.{sized}
+use Rattle.arguments.specs.Sets.{told, AreSet, SetLeft, SetLeftOr22, LeavesSet, LeavesSetOr22, LeavesCut, early, setPut, cutPut}
 
 pub set-size : setBytes .size ≡ 385
 unfolding setBytes windowBytes

@@ -6,19 +6,16 @@ use mathlib.Core.Logic.{_⊎_}
 use mathlib.Core.Bool.{Bool, cond, not, _&&_}
 use lib.Dec.{eqb}
 use lib.ListN.{length}
-use Rattle.core.specs.Answers.{Answer, refused, done, ask, _>>=_, _>>_}
+use Rattle.core.specs.Answers.{Answer, refused, done}
 use Rattle.pageset.specs.declared.PageSet.{PageSet}
 use Rattle.pageset.specs.declared.SetAnswer.{SetAnswer}
 use Rattle.pageset.specs.declared.CutAnswer.{CutAnswer}
 use Rattle.pageset.specs.Sets.{shown}
 use Rattle.pageset.specs.Says.{IsSet, Over32}
 use Rattle.layout.specs.Values.{setBytes}
+use Rattle.layout.specs.Lent.{sized}
 use Rattle.arguments.specs.declared.Reply.{Reply}
 use Rattle.arguments.specs.Replies.{none-under}
-
--- after the arguments, what is lent for an answer of n bytes: 3 for another length
-abbrev pub sized : {A : Type 0} → ℕ → List ℕ → Answer A → Answer A
-sized n was q = q >>= λ a. (ask (eqb (length was) n) 3 >> done a)
 
 -- under 0, and whether an answer was found
 abbrev pub told : ℕ → Reply

@@ -17,7 +17,7 @@ use Rattle.layout.specs.Codecs.{spelled}
 use Rattle.layout.specs.Values.{snapshotBytes}
 use Rattle.arguments.specs.declared.Reply.{Reply}
 use Rattle.arguments.specs.Replies.{none-under, value}
-use Rattle.arguments.specs.Sets.{sized}
+use Rattle.layout.specs.Lent.{sized}
 
 -- the snapshot that bytes spell, and one of no range where their length is another
 unfoldable pub snapshotIn : List ℕ → Snapshot

@@ -12,8 +12,7 @@ ghost use mathlib.Core.Path.{_≡_};
 ghost use Rattle.rules.specs.Reads.{commitRead, latestLsnRead, latestCommitRead, pageCountRead};
 ghost use Rattle.layout.specs.Records.{commitBytes};
 ghost use Rattle.layout.specs.Tables.{commitsIn, commitsOk};
-ghost use Rattle.layout.specs.Lent.{lent};
-ghost use Rattle.commitcalls.specs.Says.{sized};
+ghost use Rattle.layout.specs.Lent.{lent, sized};
 ghost use Rattle.arguments.specs.Replies.{valueOr};
 
 // The log's commit at an LSN, in its table form, or nothing: 20, 1, 3.

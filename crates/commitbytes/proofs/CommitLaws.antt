@@ -7,21 +7,16 @@ use mathlib.Core.Option.{Option, none, some}
 use mathlib.Core.List.{List, _++_, append-assoc}
 use native.Mathlib.Omega.{arith}
 use borrow.Author.Tests.{le-leb, lt-ltb, le-ltb}
-use lib.Dec.{leb, isEq}
+use lib.Dec.{leb}
 use lib.ListN.{length, take, replicate, length-replicate}
 use lib.Seq.{take-all}
 use Rattle.octets.specs.Bytes.{be, bytesOf, part, put, AreBytes}
-use Rattle.octets.specs.Order.{lex, ordering, isEqual}
-use Rattle.octets.specs.declared.Order.{Order}
-use Rattle.octets.specs.declared.Order.the-variants.{Less, Equal, Greater}
 use Rattle.octets.proofs.Numbers as N
 use Rattle.octets.proofs.Places as P
 use Rattle.core.specs.Numbers.{counts, lastPage}
-use Rattle.core.proofs.OrderLaws.{ordering-lex}
 use Rattle.pageset.proofs.FormLaws.{and-left}
 use Rattle.rules.specs.Lists.{all, given}
 use Rattle.rules.specs.Records as R
-use Rattle.rules.specs.Tables.{sameId}
 use Rattle.rules.specs.Arguments.{commitLsns}
 use Rattle.rules.specs.Forms.{idForm, lsnForm, countForm, hashForm, segmentForm, commitForm}
 use Rattle.rules.proofs.TableLaws.{and-both}
@@ -190,15 +185,6 @@ module _ (s : List ℕ) (at : ℕ) where
   pub segment-there : (be (part (at + 62) 1 s) ≡ 0 → ⊥) → commitBytes .read (part at 722 s) .segment ≡ some (segmentBytes .read (part (at + 63) 594 s))
   unfolding segmentBytes setBytes windowBytes framesBytes frameBytes
   segment-there n = let e : at + 62 + 1 ≡ at + 63 = omega arith in segment-is ∙ read-some segmentBytes s (at + 62) n ∙ ap (λ (k : ℕ). some (segmentBytes .read (part k 594 s))) e
-
--- byte strings that are the same are the same identifier
-pub same-id : (x y : List ℕ) → isEqual (lex x y) ≡ sameId x y
-same-id x y = sym (ap isEq (sym (ordering-lex x y)) ∙ is-eq (lex x y))
-  where
-    is-eq : (o : Order) → isEq (ordering o) ≡ isEqual o
-    is-eq Less = refl
-    is-eq Equal = refl
-    is-eq Greater = refl
 
 -- ---- a commit written
 

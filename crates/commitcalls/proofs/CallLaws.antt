@@ -3,7 +3,7 @@
 use Prim.Native.Nat.{ℕ, _+_, _*_, _<_}
 use mathlib.Core.Path.{_≡_, refl, sym, ap, ap₂, _∙_, subst}
 use mathlib.Core.List.{List}
-use mathlib.Core.Bool.{Bool, true, false, cond}
+use mathlib.Core.Bool.{Bool, true, false}
 use mathlib.Core.Option.{Option, none, some, Option·map}
 use lib.Dec.{eqb}
 use lib.ListN.{length}
@@ -19,37 +19,30 @@ use Rattle.table.specs.Table.{countOf}
 use Rattle.layout.specs.Codecs.{Codec}
 use Rattle.layout.specs.Records.{commitBytes}
 use Rattle.layout.specs.Tables.{commitsIn, commitsOk}
-use Rattle.layout.specs.Lent.{lent}
+use Rattle.layout.specs.Lent.{lent, sized}
+use Rattle.layout.proofs.LentLaws.{past-20}
 use Rattle.rows.proofs.Rows.{formed-rules}
 use Rattle.rows.proofs.Checks.{row-spelled}
 use Rattle.rows.proofs.Tables.{commits}
 use Rattle.commits.specs.Places.{commitAt, placeSays}
 use Rattle.commits.specs.declared.Place.{Place}
 use Rattle.commits.specs.declared.Place.the-variants as Place
-use Rattle.commitcalls.specs.Says.{sized, Answered}
+use Rattle.commitcalls.specs.Says.{Answered}
 
 -- ---- the tests, in their order
 
--- 20
-pub not-formed : {A : Type 0} (ok : Bool) (answer : Answer A) → ok ≡ false → refused 20 ≡ lent ok answer
-unfolding lent
-not-formed ok answer f = rw f
-
 module _ (t : List ℕ) (f : commitsOk t ≡ true) where
-  past-20 : {A : Type 0} (answer : Answer A) → lent (commitsOk t) (ask (commitsFormed (commitsIn t)) 20 >> answer) ≡ answer
-  unfolding lent
-  past-20 {A} answer =
-      ap (λ (b : Bool). cond b (ask (commitsFormed (commitsIn t)) 20 >> answer) (refused 20)) f
-      ∙ ap (λ (b : Bool). ask b 20 >> answer) (formed-rules commits t f)
+  by-rest : {A : Type 0} (answer : Answer A) → lent (commitsOk t) (ask (commitsFormed (commitsIn t)) 20 >> answer) ≡ answer
+  by-rest answer = past-20 (commitsOk t) (commitsFormed (commitsIn t)) answer f (formed-rules commits t f)
 
   module _ (log : Id) where
     pub latest-lsn-done : lent (commitsOk t) (latestLsnRead (commitsIn t) log) ≡ done (latestLsn (commitsIn t) log)
     unfolding latestLsnRead
-    latest-lsn-done = past-20 (done (latestLsn (commitsIn t) log))
+    latest-lsn-done = by-rest (done (latestLsn (commitsIn t) log))
 
     pub latest-commit-done : lent (commitsOk t) (latestCommitRead (commitsIn t) log) ≡ done (latest (commitsIn t) log)
     unfolding latestCommitRead
-    latest-commit-done = past-20 (done (latest (commitsIn t) log))
+    latest-commit-done = by-rest (done (latest (commitsIn t) log))
 
     module _ (lsn : ℕ) where
       -- 1
@@ -61,25 +54,25 @@ module _ (t : List ℕ) (f : commitsOk t ≡ true) where
 
       pub page-count-zero : lsn ≡ 0 → lent (commitsOk t) (pageCountRead (commitsIn t) log lsn) ≡ refused 1
       unfolding pageCountRead
-      page-count-zero z = past-20 (ask (counts lsn) 1 >> rest) ∙ zero-lsn rest z
+      page-count-zero z = by-rest (ask (counts lsn) 1 >> rest) ∙ zero-lsn rest z
         where
           rest : Answer (Option ℕ)
           rest = done (Option·map (λ (c : Commit). c .count) (getCommit (commitsIn t) log lsn))
 
       pub page-count-done : (lsn ≡ 0 → ⊥) → lent (commitsOk t) (pageCountRead (commitsIn t) log lsn) ≡ done (Option·map (λ (c : Commit). c .count) (getCommit (commitsIn t) log lsn))
       unfolding pageCountRead
-      page-count-done z = past-20 (ask (counts lsn) 1 >> rest) ∙ past-1 rest z
+      page-count-done z = by-rest (ask (counts lsn) 1 >> rest) ∙ past-1 rest z
         where
           rest : Answer (Option ℕ)
           rest = done (Option·map (λ (c : Commit). c .count) (getCommit (commitsIn t) log lsn))
 
       pub commit-read-zero : lsn ≡ 0 → lent (commitsOk t) (commitRead (commitsIn t) log lsn) ≡ refused 1
       unfolding commitRead
-      commit-read-zero z = past-20 (ask (counts lsn) 1 >> done (getCommit (commitsIn t) log lsn)) ∙ zero-lsn (done (getCommit (commitsIn t) log lsn)) z
+      commit-read-zero z = by-rest (ask (counts lsn) 1 >> done (getCommit (commitsIn t) log lsn)) ∙ zero-lsn (done (getCommit (commitsIn t) log lsn)) z
 
       pub commit-read-done : (lsn ≡ 0 → ⊥) → lent (commitsOk t) (commitRead (commitsIn t) log lsn) ≡ done (getCommit (commitsIn t) log lsn)
       unfolding commitRead
-      commit-read-done z = past-20 (ask (counts lsn) 1 >> done (getCommit (commitsIn t) log lsn)) ∙ past-1 (done (getCommit (commitsIn t) log lsn)) z
+      commit-read-done z = by-rest (ask (counts lsn) 1 >> done (getCommit (commitsIn t) log lsn)) ∙ past-1 (done (getCommit (commitsIn t) log lsn)) z
 
 -- ---- a field of the commit that was found
 
@@ -95,12 +88,10 @@ module _ (field : Commit → ℕ) {o : Option Commit} (answer : Answer (Option �
 module _ {R : Type 0} (c : Codec R) (out : List ℕ) (size : ℕ) where
   -- a number before 3
   pub refused-before : (answer : Answer (Option R)) (n : ℕ) → answer ≡ refused n → Answered c (sized size out answer) (refused n) out out
-  unfolding sized
   refused-before answer n e = subst (λ (a : Answer (Option R)). Answered c (sized size out a) (refused n) out out) (sym e) (record { says = refl; bytes = refl })
 
   -- what comes behind the numbers before 3
   asked : (answer : Answer (Option R)) (o : Option R) → answer ≡ done o → sized size out answer ≡ (ask (eqb (length out) size) 3 >> done o)
-  unfolding sized
   asked answer o e = ap (sized size out) e
 
   -- 3

@@ -4,9 +4,7 @@ use mathlib.Core.Path.{_≡_}
 use mathlib.Core.List.{List}
 use mathlib.Core.Bool.{Bool, true, false}
 use mathlib.Core.Option.{Option, none, some}
-use lib.Dec.{eqb}
-use lib.ListN.{length}
-use Rattle.core.specs.Answers.{Answer, refused, done, ask, _>>=_, _>>_}
+use Rattle.core.specs.Answers.{Answer, refused, done, _>>=_}
 use Rattle.rules.specs.Lists.{isSome}
 use Rattle.layout.specs.Codecs.{Codec}
 use Rattle.commitcalls.specs.declared.MaybeCountAnswer.{MaybeCountAnswer}
@@ -25,13 +23,6 @@ abbrev pub foundSays : FoundAnswer → Answer Bool
 foundSays (FoundAnswer.Refused n) = refused n
 foundSays FoundAnswer.Found = done true
 foundSays FoundAnswer.Nothing = done false
-
--- 3: the bytes lent for a record of n bytes are n; asked after the numbers before it
-unfoldable pub sized : {A : Type 0} → ℕ → List ℕ → Answer A → Answer A
-sized n out answer = do
-  a ← answer
-  ask (eqb (length out) n) 3
-  done a
 
 module _ {R : Type 0} (c : Codec R) where
   -- the bytes lent for a record, after the call: its bytes where it was found, else as they were

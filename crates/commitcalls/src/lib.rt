@@ -14,10 +14,10 @@ ghost use Rattle.core.specs.Answers.{done};
 ghost use Rattle.core.specs.Says.{maybeLsnSays};
 ghost use Rattle.layout.specs.Records.{commitBytes};
 ghost use Rattle.layout.specs.Tables.{commitsIn, commitsOk};
-ghost use Rattle.layout.specs.Lent.{lent};
+ghost use Rattle.layout.specs.Lent.{lent, sized};
 ghost use Rattle.rules.specs.Reads.{commitRead, latestLsnRead, latestCommitRead, pageCountRead};
 ghost use Rattle.commits.specs.Places.{placeSays, Inside};
-ghost use Rattle.commitcalls.specs.Says.{maybeCountSays, foundSays, sized, Answered};
+ghost use Rattle.commitcalls.specs.Says.{maybeCountSays, foundSays, Answered};
 
 // A page count or nothing, or the number of a refusal.
 pub enum MaybeCountAnswer {

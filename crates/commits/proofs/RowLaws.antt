@@ -18,7 +18,8 @@ use Rattle.commit.specs.declared.Presence.{Presence}
 use Rattle.commit.specs.declared.Presence.the-variants.{Missing, Given}
 use Rattle.layout.specs.Records.{logLsnBytes, commitBytes}
 use Rattle.commitbytes.specs.Laid.{presence}
-use Rattle.commitbytes.proofs.CommitLaws.{commit-at, same-id}
+use Rattle.rules.proofs.Facts.{id-is}
+use Rattle.commitbytes.proofs.CommitLaws.{commit-at}
 use Rattle.commits.specs.Places.{commitAt}
 
 -- ---- the bytes of a key
@@ -60,7 +61,7 @@ module _ (t : List ℕ) (i at : ℕ) (p : at ≡ 2 + i * 722) where
   pub row-log : (log : Id) (r : Bool) → length log ≡ 16 → r ≡ isEqual (lex (part 0 16 log) (part (at + 1) 16 t)) → r ≡ sameId log (commitAt t i .log)
   row-log log r l e =
       row-read (λ (c : Commit). sameId log (c .log)) r
-      (e ∙ same-id (part 0 16 log) (part (at + 1) 16 t) ∙ ap₂ sameId (part-whole log 16 l) (sym (ap (λ (c : Commit). c .log) (commit-at t at))))
+      (e ∙ id-is (part 0 16 log) (part (at + 1) 16 t) ∙ ap₂ sameId (part-whole log 16 l) (sym (ap (λ (c : Commit). c .log) (commit-at t at))))
 
   -- its segment, there or missing
   module _ (x : Presence) (e : x ≡ presence (commitBytes .read (part at 722 t) .segment)) where

@@ -1,26 +1,23 @@
 -- A copy's bytes: those of the stored commit with another key in front. The key is a commit's first 25 bytes and nothing else of the commit goes by it, so they are the bytes of the
 -- commit under the other log and LSN, which is in form.
-use Prim.Native.Nat.{ℕ, suc, _+_, _-_, _*_, _<_, _^_}
+use Prim.Native.Nat.{ℕ, _+_, _*_, _<_, _^_}
 use mathlib.Core.Path.{_≡_, refl, sym, ap, ap₂, _∙_}
-use mathlib.Core.List.{List, [], _∷_, _++_}
-use mathlib.Core.Bool.{Bool, true, _&&_}
+use mathlib.Core.List.{List, _++_}
+use mathlib.Core.Bool.{true}
 use native.Mathlib.Omega.{arith}
-use lib.ListN.{length, drop, length-append}
+use lib.ListN.{length, drop}
 use lib.Seq.{drop-at}
-use lib.Dec.{leb, ltb}
-use borrow.Author.Tests.{lt-ltb, le-leb, eq-eqb}
 use Rattle.octets.specs.Bytes.{part, put, AreBytes}
-use Rattle.core.specs.Numbers.{counts, lastLsn}
 use Rattle.rules.specs.Records.{Id, Commit}
-use Rattle.rules.specs.Lists.{all}
-use Rattle.rules.specs.Forms.{bytesForm, idForm, lsnForm, commitForm}
-use Rattle.rules.proofs.TableLaws.{and-fst, and-snd, and-both}
+use Rattle.rules.specs.Forms.{commitForm}
+use Rattle.rules.proofs.Kept.{lsn-form, renumber-form}
 use Rattle.table.specs.Table.{countOf}
 use Rattle.layout.specs.Codecs.{pair, number, optional, listed, inForm}
 use Rattle.layout.specs.Values.{segmentBytes}
 use Rattle.layout.specs.Records.{logLsnBytes, hashBytes, commitBytes}
 use Rattle.layout.specs.Tables.{commitsOk}
 use Rattle.layout.proofs.HoldLaws.{held-form}
+use Rattle.layout.proofs.PlaceLaws.{id-form}
 use Rattle.rows.proofs.Rows.{long-is}
 use Rattle.rows.proofs.Checks.{row-form, row-spelled}
 use Rattle.rows.proofs.Tables.{commits, commit-ok}
@@ -41,24 +38,6 @@ key-rest c = refl
 other-front : (k j r : List ℕ) → length k ≡ length j → put 0 k (j ++ r) ≡ k ++ r
 unfolding put
 other-front k j r e = let z : 0 + length k ≡ length j = omega (arith, e) in ap (λ (l : List ℕ). k ++ l) (ap (λ (n : ℕ). drop n (j ++ r)) z ∙ drop-at j r (length j) refl)
-
-pub renumber-form : (log : Id) (lsn : ℕ) (c : Commit) → idForm log ≡ true → lsnForm lsn ≡ true → commitForm c ≡ true → commitForm (renumber log lsn c) ≡ true
-unfolding commitForm
-renumber-form log lsn c i l f =
-    and-both (and-both (and-both (and-both (and-both (and-both i l) (search (and-fst, and-snd))) (search (and-fst, and-snd))) (search (and-fst, and-snd))) (search (and-fst, and-snd))) (search (and-fst, and-snd))
-
-all-small : (b : List ℕ) → AreBytes b → all (λ x. ltb x 256) b ≡ true
-unfolding all
-all-small [] ab = refl
-all-small (x ∷ b) ab = ap₂ _&&_ (lt-ltb x 256 (ab 0)) (all-small b (λ i. ab (suc i)))
-
-pub id-form : (log : Id) → length log ≡ 16 → AreBytes log → idForm log ≡ true
-unfolding bytesForm
-id-form log l b = and-both (eq-eqb (length log) 16 l) (all-small log b)
-
-pub lsn-form : (lsn : ℕ) → 0 < lsn → lsn < 2 ^ 64 → lsnForm lsn ≡ true
-unfolding lsnForm lastLsn
-lsn-form lsn p h = and-both (lt-ltb 0 lsn p) (le-leb lsn (2 ^ 64 - 1) (omega arith))
 
 module _ (t : List ℕ) (ok : commitsOk t ≡ true) (row : ℕ) (h : row < countOf t) (log : Id) (l : length log ≡ 16) (b : AreBytes log) (lsn : ℕ) (p : 0 < lsn) (q : lsn < 2 ^ 64) where
   copy-form : commitForm (renumber log lsn (commitAt t row)) ≡ true

@@ -1,40 +1,40 @@
 -- Copies written one after another. The invariant (`Copying`): what is left of the path gives the commits to come, since the log that they are written to is named by no range left; in each of
 -- the three tables what they add is still to be stored on the way to the table at the end (`Storing`); k counts them. It starts with all commits of the path, a write takes one off, and with none left the
 -- tables are those of the rule's `writeAll`, laid over the bytes at entry.
-use Prim.Native.Nat.{ℕ, suc, _+_, _-_, _*_, _^_, _<_, _≤_}
-use mathlib.Core.Path.{_≡_, refl, sym, ap, ap₂, _∙_, subst}
+use Prim.Native.Nat.{ℕ, suc, _+_}
+use mathlib.Core.Path.{_≡_, refl, sym, ap, _∙_, subst}
 use mathlib.Core.List.{List, [], _∷_, _++_}
 use mathlib.Core.Bool.{Bool, true, _&&_}
 use native.Mathlib.Omega.{arith}
 use lib.ListN.{length}
 use Rattle.octets.specs.Bytes.{AreBytes}
 use Rattle.core.specs.Orders.{logLsn, logPageLsn}
-use Rattle.rules.specs.Lists.{those, all}
-use Rattle.rules.specs.Records.{Id, Commit, Checkpoint, Entry, Range, commitKey, checkpointKey, entryKey}
-use Rattle.rules.specs.Forms.{idForm, lsnForm, commitForm, checkpointForm, entryForm}
+use Rattle.rules.specs.Lists.{all}
+use Rattle.rules.specs.Records.{Id, Commit, Checkpoint, Entry, commitKey, checkpointKey, entryKey}
+use Rattle.rules.specs.Forms.{commitForm, checkpointForm, entryForm}
 use Rattle.rules.specs.Tables.{Table, fits, store, storeAll, putAll}
-use Rattle.rules.specs.Write.{Logs, checkpointsOf, entriesOf, write, writeAll, logsFit}
+use Rattle.rules.specs.Write.{checkpointsOf, entriesOf, write, writeAll, logsFit}
 use Rattle.rules.specs.Room.{each}
-use Rattle.rules.specs.Walk.{inRange, pathCommits}
+use Rattle.rules.specs.Walk.{pathCommits}
 use Rattle.rules.specs.Copies.{renumbered}
-use Rattle.rules.proofs.TableLaws.{and-fst, and-snd, and-both, all-append, all-those}
-use Rattle.table.specs.Table.{countOf}
+use Rattle.rules.proofs.TableLaws.{and-fst, and-snd, and-both, all-append}
+use Rattle.rules.proofs.Write.{entries-form, checkpoints-form}
+use Rattle.rules.proofs.Kept.{path-forms, renumbered-forms}
+use Rattle.rules.proofs.RoomOfCalls.{commits-all, checkpoints-all, index-all}
 use Rattle.layout.specs.Records.{commitBytes, checkpointBytes, entryBytes}
 use Rattle.layout.specs.Tables.{commitsIn, commitsOk, checkpointsIn, checkpointsOk, indexIn, indexOk, laidOver}
-use Rattle.rows.proofs.Puts.{Storing, storing-start, storing-end}
+use Rattle.layout.proofs.PlaceLaws.{id-form}
+use Rattle.rows.proofs.Puts.{Storing, storing-start, storing-many, many-fits, many-table, storing-end}
 use Rattle.rows.proofs.Rows.{formed-forms}
 use Rattle.rows.proofs.Tables.{commits, checkpoints, index}
 use Rattle.commits.specs.Places.{commitAt}
-use Rattle.writecalls.specs.Written.{IsCommit, commitIn, logsIn}
-use Rattle.writecalls.proofs.Rows.{entries-form, checkpoints-form}
+use Rattle.writecalls.specs.Written.{commitIn, logsIn}
 use Rattle.paths.specs.Left.{otherLog, isLeft, leftSays, Meets}
 use Rattle.paths.specs.declared.Left.{Left}
 use Rattle.paths.specs.declared.Met.{Met}
 use Rattle.paths.proofs.PathLaws.{path-other}
 use Rattle.paths.proofs.LeftLaws.{left-small}
 use Rattle.copies.specs.Copied.{renumber}
-use Rattle.copies.proofs.CopyRows.{renumber-form, id-form, lsn-form}
-use Rattle.copies.proofs.Storings.{storing-many, many-fits, many-table, commits-all, checkpoints-all, index-all}
 
 -- ---- forms
 
@@ -43,13 +43,6 @@ unfolding all each
 each-forms f good form k [] a = refl
 each-forms f good form k (x ∷ xs) a =
     all-append form (f x) (each f xs) ∙ and-both (k x (and-fst (good x) (all good xs) a)) (each-forms f good form k xs (and-snd (good x) (all good xs) a))
-
-renumbered-forms : (log : Id) (cs : List Commit) → idForm log ≡ true → length cs ≤ 524280 → all commitForm cs ≡ true → all commitForm (renumbered log cs) ≡ true
-unfolding all
-renumbered-forms log [] i n f = refl
-renumbered-forms log (c ∷ cs) i n f =
-    and-both (renumber-form log (suc (length cs)) c i (lsn-form (suc (length cs)) (omega arith) (omega (arith, n))) (and-fst (commitForm c) (all commitForm cs) f))
-    (renumbered-forms log cs i (omega (arith, n)) (and-snd (commitForm c) (all commitForm cs) f))
 
 -- ---- the invariant
 
@@ -122,11 +115,6 @@ module _ (log : Id) (wc : Table Commit) (wk : Table Checkpoint) (we : Table Entr
           }
 
 -- ---- the start
-
-path-forms : (cs : Table Commit) (path : List Range) → all commitForm (cs .rows) ≡ true → all commitForm (pathCommits cs path) ≡ true
-unfolding all
-path-forms cs [] f = refl
-path-forms cs (r ∷ rs) f = all-append commitForm (those (inRange r) (cs .rows)) (pathCommits cs rs) ∙ and-both (all-those commitForm (inRange r) (cs .rows) f) (path-forms cs rs f)
 
 module _ (cs ks es : List ℕ) (left : Left) (log : Id) where
   -- the commits that the path gives, renumbered

@@ -1,10 +1,10 @@
 -- Counting what copies add, one commit of the path after another: with the commit that is met, what is counted and what is still to be counted make up the whole (`entries-next`,
 -- `checkpoints-next`). A commit's checkpoint LSNs are read where they stand, one after another.
-use Prim.Native.Nat.{ℕ, zero, suc, _+_, _-_, _*_, _^_, min, _≤_, _<_}
+use Prim.Native.Nat.{ℕ, suc, _+_, _*_, _^_, min, _≤_, _<_}
 use mathlib.Core.Path.{_≡_, refl, sym, ap, ap₂, _∙_}
 use mathlib.Core.List.{List, [], _∷_, _++_, map}
 use mathlib.Core.Option.{none}
-use mathlib.Core.Bool.{Bool, true, false, cond, _||_, _&&_}
+use mathlib.Core.Bool.{Bool, true, false, _||_, _&&_}
 use native.Mathlib.Omega.{arith}
 use native.Mathlib.Numerals.{add-one}
 use lib.Dec.{eqb}
@@ -15,13 +15,14 @@ use Rattle.core.specs.Orders.{logLsn, logPageLsn}
 use Rattle.pageset.specs.Sets.{shown}
 use Rattle.pageset.specs.declared.PageSet.{PageSet}
 use Rattle.rules.specs.Lists.{any}
-use Rattle.rules.specs.Records.{Id, Commit, Checkpoint, Entry, Range, commitKey, checkpointKey, entryKey}
-use Rattle.rules.specs.Tables.{Table, fits, latest}
+use Rattle.rules.specs.Records.{Id, Commit, Checkpoint, Entry, checkpointKey, entryKey}
+use Rattle.rules.specs.Tables.{fits, latest}
 use Rattle.rules.specs.Write.{pagesOf, checkpointsOf, entriesOf, writeAll, logsFit}
 use Rattle.rules.specs.Room.{lacks, news, each}
 use Rattle.rules.specs.Walk.{pathCommits}
 use Rattle.rules.specs.Copies.{renumbered}
-use Rattle.rules.proofs.TableLaws.{cases, clash}
+use Rattle.rules.proofs.TableLaws.{cases}
+use Rattle.rules.proofs.Write.{entries-form}
 use Rattle.table.specs.Table.{countOf, recs, runs, holds}
 use Rattle.batch.specs.Batch as Many
 use Rattle.layout.specs.Codecs.{listed, number}
@@ -36,8 +37,8 @@ use Rattle.commitbytes.proofs.LsnLaws.{lsns-at}
 use Rattle.commitbytes.proofs.CommitLaws.{commit-at}
 use Rattle.indexing.specs.Rows.{entryRows, checkpoint}
 use Rattle.writecalls.specs.Written.{IsCommit, commitIn, logsIn}
-use Rattle.writecalls.proofs.Rows.{is-form, entry-rows, entries-form}
-use Rattle.paths.specs.Left.{isLeft, leftSays, Meets}
+use Rattle.writecalls.proofs.Rows.{is-form, entry-rows}
+use Rattle.paths.specs.Left.{leftSays, Meets}
 use Rattle.paths.specs.declared.Left.{Left}
 use Rattle.paths.specs.declared.Met.{Met}
 use Rattle.copies.specs.Copied.{renumber, lists}

@@ -1,38 +1,39 @@
 -- What copies add to each table. A key counts as new where it is named last and not held (`news`), in bytes as in the rules. Copies of a log without commits are all new, since their LSNs
 -- differ; so do the keys of different copies' index entries, whose new ones are counted copy by copy. Checkpoints of different copies may meet: each is counted against the rest of its
 -- list, the commits after its own and the table.
-use Prim.Native.Nat.{ℕ, zero, suc, _+_, _*_, _%_, _≤_, _<_, compare, Ordering, Ordering·lt, Ordering·eq, Ordering·gt}
+use Prim.Native.Nat.{ℕ, suc, _+_, _*_, _%_, _≤_, _<_, compare, Ordering, Ordering·lt, Ordering·eq, Ordering·gt}
 use mathlib.Core.Path.{_≡_, refl, sym, ap, ap₂, _∙_}
 use mathlib.Core.List.{List, [], _∷_, _++_, map, append-assoc}
-use mathlib.Core.Option.{Option, none, some}
-use mathlib.Core.Bool.{Bool, true, false, cond, _||_, _&&_}
+use mathlib.Core.Option.{none}
+use mathlib.Core.Bool.{Bool, true, false, cond, _||_}
 use native.Mathlib.Omega.{arith}
 use lib.Dec.{isEq, eqb, leb}
 use lib.ListN.{length, length-map, length-append}
-use borrow.Author.Tests.{leb-true, eqb-true, eq-eqb}
 use Rattle.core.specs.Orders.{next, bytes, logLsn, logPageLsn}
-use Rattle.core.proofs.OrderLaws.{Lawful, logLsn-lawful, logPageLsn-lawful}
+use Rattle.core.proofs.OrderLaws.{logLsn-lawful, logPageLsn-lawful}
 use Rattle.octets.specs.Order.{ordering}
 use Rattle.octets.specs.declared.Order.{Order}
 use Rattle.octets.specs.declared.Order.the-variants.{Less, Equal, Greater}
-use Rattle.pageset.specs.Sets.{bit, normalForm}
-use Rattle.rules.specs.Lists.{any, all, those, first, given}
-use Rattle.rules.specs.Records.{Id, Pages, Segment, Commit, Checkpoint, Entry, LogLsn, LogPageLsn, commitKey, checkpointKey, entryKey}
+use Rattle.pageset.specs.Sets.{bit}
+use Rattle.rules.specs.Lists.{any, all, those, first}
+use Rattle.rules.specs.Records.{Id, Pages, Commit, Checkpoint, Entry, LogLsn, LogPageLsn, commitKey, checkpointKey, entryKey}
 use Rattle.rules.specs.Pages.{numbers, pagesIn}
-use Rattle.rules.specs.Forms.{commitForm, segmentForm, listsForm}
+use Rattle.rules.specs.Forms.{commitForm}
 use Rattle.rules.specs.Tables.{Table, capacity, fits, latest, sameId, storeAll}
 use Rattle.rules.specs.Write.{pagesOf, checkpointsOf, entriesOf}
 use Rattle.rules.specs.Room.{held, lacks, news, hasRoom, each}
 use Rattle.rules.specs.Copies.{renumbered}
-use Rattle.rules.proofs.TableLaws.{cases, clash, missing, eq-of, and-fst, and-snd, and-both, all-append, map-append, any-append, any-map, any-and, length-those}
+use Rattle.rules.proofs.TableLaws.{cases, clash, missing, eq-of, and-fst, and-snd, and-both, all-append, map-append, any-map, any-and, length-those, eqb-turn}
 use Rattle.rules.proofs.Facts.{id-same}
-use Rattle.rules.proofs.Rooms.{fits-storeAll}
-use Rattle.rules.proofs.PageLaws.{empty-form}
+use Rattle.rules.proofs.Rooms.{held-nil, held-append, fits-storeAll}
+use Rattle.rules.proofs.PageLaws.{length-numbers}
+use Rattle.rules.proofs.Write.{set-form}
 use Rattle.table.specs.Records.{cmp, lookBy, look}
 use Rattle.table.specs.Table.{countOf, recs, holds}
 use Rattle.batch.specs.Batch as Many
 use Rattle.layout.specs.Codecs.{Codec}
 use Rattle.layout.specs.Tables.{formedIn, tableIn}
+use Rattle.setbytes.proofs.LaidLaws.{few}
 use Rattle.rows.proofs.Rows.{Layout, holds-is, length-rows, formed-up, formed-forms, rows-are}
 use Rattle.indexing.specs.Rows.{checkpoint}
 use Rattle.copies.specs.Copied.{renumber, lists}
@@ -40,14 +41,6 @@ use Rattle.copies.specs.Copied.{renumber, lists}
 -- ---- any table
 
 module _ {R K : Type 0} (key : R → K) (order : K → K → Ordering) where
-  pub held-append : (k : K) (a l : List R) → held key order k (a ++ l) ≡ (held key order k a || held key order k l)
-  unfolding held
-  held-append k a l = any-append (λ r. isEq (order k (key r))) a l
-
-  held-nil : (k : K) → held key order k [] ≡ false
-  unfolding held any
-  held-nil k = refl
-
   pub lacks-le : (k : K) (l : List R) → lacks key order k l ≤ 1
   lacks-le k l = cases (held key order k l) (λ q. rw q (omega arith)) (λ q. rw q (omega arith))
 
@@ -69,7 +62,7 @@ module _ {R K : Type 0} (key : R → K) (order : K → K → Ordering) where
   news-apart [] b l h = refl
   news-apart (r ∷ a) b l h =
       let q = not-held (held key order (key r) b) (and-fst (cond (held key order (key r) b) false true) (all (λ s. cond (held key order (key s) b) false true) a) h) in
-      let e : held key order (key r) (a ++ (b ++ l)) ≡ held key order (key r) (a ++ l) = held-append (key r) a (b ++ l) ∙ rw (held-append (key r) b l, q, held-append (key r) a l) refl in
+      let e : held key order (key r) (a ++ (b ++ l)) ≡ held key order (key r) (a ++ l) = held-append key order (key r) a (b ++ l) ∙ rw (held-append key order (key r) b l, q, held-append key order (key r) a l) refl in
       rw (e, news-apart a b l (and-snd (cond (held key order (key r) b) false true) (all (λ s. cond (held key order (key s) b) false true) a) h)) refl
     where
       not-held : (x : Bool) → cond x false true ≡ true → x ≡ false
@@ -184,30 +177,16 @@ entries-step log c cs l =
     (news-apart entryKey logPageLsn (entriesOf (renumber log (suc (length cs)) c)) (each entriesOf (renumbered log cs)) l (pages-apart log (suc (length cs)) cs (omega arith) (pagesIn (pagesOf (c .segment)))))
 
 -- a commit has at most 32 times 64 pages
-length-numbers : (a n : ℕ) → length (numbers a n) ≡ n
-unfolding numbers
-length-numbers a zero = refl
-length-numbers a (suc n) = ap suc (length-numbers (suc a) n)
-
 pages-few : (s : Pages) → length (pagesIn s) ≤ 64 * length s
 unfolding pagesIn
 pages-few [] = omega arith
 pages-few (w ∷ s) =
     omega (arith, length-append (those (λ p. bit (w .mask) (p % 64)) (numbers (w .index * 64) 64)) (pagesIn s), length-those (λ p. bit (w .mask) (p % 64)) (numbers (w .index * 64) 64), length-numbers (w .index * 64) 64, pages-few s)
 
-windows-few : (s : Pages) → normalForm s ≡ true → length s ≤ 32
-unfolding normalForm
-windows-few s e = leb-true (length s) 32 (search (and-fst, and-snd))
-
 pub entries-few : (c : Commit) → commitForm c ≡ true → (l : List Entry) → news entryKey logPageLsn (entriesOf c) l ≤ 2048
-unfolding commitForm segmentForm listsForm
 entries-few c e l =
     let m : length (entriesOf c) ≡ length (pagesIn (pagesOf (c .segment))) = length-map (pagesIn (pagesOf (c .segment))) (λ (p : ℕ). record { log = c .log; page = p; lsn = c .lsn }) in
-    omega (arith, news-le entryKey logPageLsn (entriesOf c) l, m, pages-few (pagesOf (c .segment)), windows-few (pagesOf (c .segment)) (go (c .segment) (search (and-fst, and-snd))))
-  where
-    go : (o : Option Segment) → given segmentForm o ≡ true → normalForm (pagesOf o) ≡ true
-    go none h = empty-form
-    go (some s) h = search (and-fst, and-snd)
+    omega (arith, news-le entryKey logPageLsn (entriesOf c) l, m, pages-few (pagesOf (c .segment)), few (pagesOf (c .segment)) (set-form c e))
 
 -- ---- the checkpoints
 
@@ -219,9 +198,6 @@ bytes-self log = first-part (bytes log log) (logLsn-lawful .self (log, 0))
     first-part Ordering·eq e = refl
     first-part Ordering·gt e = e
 
-eqb-turned : (m n : ℕ) → eqb m n ≡ eqb n m
-eqb-turned m n = cases (eqb m n) (λ q. q ∙ sym (eq-eqb n m (sym (eqb-true m n q)))) (λ q. q ∙ sym (not-true (eqb n m) (λ w. clash (eq-eqb m n (sym (eqb-true n m w))) q)))
-
 module _ (log : Id) (n : ℕ) where
   -- of a log's checkpoints, one at an LSN is there where the LSN is
   pub held-listed : (ns : List ℕ) → held checkpointKey logLsn (log, n) (map (checkpoint log) ns) ≡ any (eqb n) ns
@@ -231,7 +207,7 @@ module _ (log : Id) (n : ℕ) where
       ∙ any-and true (eqb n) (λ m. isEq (logLsn (log, n) (log, m))) ns (λ m. same m)
     where
       same : (m : ℕ) → isEq (logLsn (log, n) (log, m)) ≡ eqb n m
-      same m = ap (λ (o : Ordering). isEq (next o (compare m n))) (bytes-self log) ∙ eqb-turned m n
+      same m = ap (λ (o : Ordering). isEq (next o (compare m n))) (bytes-self log) ∙ eqb-turn m n
 
   -- what later copies name
   pub held-later : (cs : List Commit) → held checkpointKey logLsn (log, n) (each checkpointsOf (renumbered log cs)) ≡ any (lists n) cs

@@ -27,44 +27,25 @@ use Rattle.volume.specs.declared.volume.Volume.{Volume as CodeVolume}
 use Rattle.arguments.specs.Snapshots.{snapshotIn, snapshotFormed}
 use Rattle.arguments.proofs.SnapshotLaws.{arg-says}
 use Rattle.writecalls.specs.Written.{logsOk}
+use Rattle.writecalls.proofs.Formed.{each-ok}
 use Rattle.copycalls.specs.Making.{ids, copyOk, argumentsIn}
 
 -- ---- 20
 
 module _ (vs cs ks es : List ℕ) where
-  pub no-volumes : volumesOk vs ≡ false → false ≡ copyOk vs cs ks es
+  all-volumes : true ≡ copyOk vs cs ks es → volumesOk vs ≡ true
   unfolding copyOk
-  no-volumes e = sym (ap (λ (b : Bool). b && logsOk cs ks es) e)
+  all-volumes e = and-fst (volumesOk vs) (logsOk cs ks es) (sym e)
 
-  module _ (v : volumesOk vs ≡ true) where
-    by-logs : copyOk vs cs ks es ≡ logsOk cs ks es
-    unfolding copyOk
-    by-logs = ap (λ (b : Bool). b && logsOk cs ks es) v
-
-    pub no-commits : commitsOk cs ≡ false → false ≡ copyOk vs cs ks es
-    unfolding logsOk
-    no-commits e = sym (by-logs ∙ ap (λ (b : Bool). b && checkpointsOk ks && indexOk es) e)
-
-    module _ (c : commitsOk cs ≡ true) where
-      pub no-checkpoints : checkpointsOk ks ≡ false → false ≡ copyOk vs cs ks es
-      unfolding logsOk
-      no-checkpoints e = sym (by-logs ∙ ap₂ (λ (a b : Bool). a && b && indexOk es) c e)
-
-      pub index-decides : checkpointsOk ks ≡ true → indexOk es ≡ copyOk vs cs ks es
-      unfolding logsOk
-      index-decides e = sym (by-logs ∙ ap₂ (λ (a b : Bool). a && b && indexOk es) c e)
+  pub all-logs : true ≡ copyOk vs cs ks es → logsOk cs ks es ≡ true
+  unfolding copyOk
+  all-logs e = and-snd (volumesOk vs) (logsOk cs ks es) (sym e)
 
   -- all four
   pub formed : true ≡ copyOk vs cs ks es → (volumesOk vs ≡ true) × (commitsOk cs ≡ true) × (checkpointsOk ks ≡ true) × (indexOk es ≡ true)
-  unfolding copyOk logsOk
   formed e =
-      let l = and-snd (volumesOk vs) (logsOk cs ks es) (sym e) in
-      let c = and-fst (commitsOk cs && checkpointsOk ks) (indexOk es) l in (
-        and-fst (volumesOk vs) (logsOk cs ks es) (sym e),
-        and-fst (commitsOk cs) (checkpointsOk ks) c,
-        and-snd (commitsOk cs) (checkpointsOk ks) c,
-        and-snd (commitsOk cs && checkpointsOk ks) (indexOk es) l,
-      )
+      let l = each-ok cs ks es (all-logs e) in
+      (all-volumes e, l .0, l .1, l .2)
 
 -- ---- 1, 2, 3
 

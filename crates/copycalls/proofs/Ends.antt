@@ -37,8 +37,9 @@ use Rattle.arguments.proofs.SnapshotLaws.{in-few, arg-says}
 use Rattle.writecalls.specs.Written.{logsIn}
 use Rattle.paths.specs.Left.{otherLog}
 use Rattle.paths.proofs.PathLaws.{path-without}
+use Rattle.writecalls.proofs.Formed.{logs-formed}
 use Rattle.copycalls.specs.Making.{Made, upTo, made, copyOk, argumentsIn, snapshotOn, logrefIn, logrefOn, outAfter, Leaves}
-use Rattle.copycalls.proofs.Asks.{formed, Passes, passes, local-free}
+use Rattle.copycalls.proofs.Asks.{all-logs, formed, Passes, passes, local-free}
 
 -- ---- what is left
 
@@ -155,14 +156,8 @@ others-only log path = those-pass (otherLog log) path
 -- ---- the calls
 
 module _ (vs cs ks es : List ℕ) (ok : true ≡ copyOk vs cs ks es) where
-  logs-formed : logsFormed (logsIn cs ks es) ≡ true
-  unfolding logsFormed
-  logs-formed =
-      let f = formed vs cs ks es ok in
-      and-both (and-both (formed-rules Layouts.commits cs (f .1)) (formed-rules Layouts.checkpoints ks (f .2))) (formed-rules Layouts.index es (f .3))
-
   pub all-formed : (volumesFormed (volumesIn vs) && logsFormed (logsIn cs ks es)) ≡ true
-  all-formed = and-both (formed-rules Layouts.volumes vs (formed vs cs ks es ok .0)) logs-formed
+  all-formed = and-both (formed-rules Layouts.volumes vs (formed vs cs ks es ok .0)) (logs-formed cs ks es (all-logs vs cs ks es ok))
 
 -- an argument's number is the answer
 stops : (q : Answer (Unit {0})) (k : Answer Made) (n : ℕ) → n ≡ code q → (n ≡ 0 → ⊥) → (q >> k) ≡ refused n

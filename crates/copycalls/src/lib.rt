@@ -4,7 +4,6 @@ use arguments::Reply;
 use arguments::snapshots::snapshot_arg;
 use arguments::snapshots::snapshot_ok;
 use commits::Place;
-use commits::commits_formed;
 use commits::find_commit;
 use copies::room::room_for_copies;
 use copies::store_copies;
@@ -13,22 +12,20 @@ use core::id;
 use core::id::LogId;
 use core::id::VolumeId;
 use core::lsn::Lsn;
-use entries::checkpoints_formed;
-use entries::index_formed;
 use layout::VOLUME;
 use paths::Left;
 use paths::commits_left;
 use paths::without;
-use table::Spot;
 use volume::snapshot::LogRange;
 use volume::volume::PendingCommit;
 use volume::volume::Sync;
 use volume::volume::Volume;
-use volumebytes::volume_write;
-use volumes::find_volume;
+use volumebytes::put_out;
 use volumes::put_volume;
 use volumes::room_for_volume;
+use volumes::vid_free;
 use volumes::volumes_formed;
+use writecalls::logs_formed;
 ghost use mathlib.Core.Path.{_≡_};
 ghost use mathlib.Core.Bool.{true};
 ghost use mathlib.Core.List.{[], _∷_};
@@ -36,10 +33,9 @@ ghost use lib.ListN.{length};
 ghost use Rattle.core.specs.Answers.{code};
 ghost use Rattle.rules.specs.Lists.{all, those, isNone};
 ghost use Rattle.rules.specs.Forms.{volumeForm};
-ghost use Rattle.rules.specs.Tables.{getVolume, latest};
+ghost use Rattle.rules.specs.Tables.{latest};
 ghost use Rattle.rules.specs.Copies.{copyFree, newVolume, copied};
 ghost use Rattle.volume.specs.Volumes.{volumeSays};
-ghost use Rattle.layout.specs.Records.{volumeBytes};
 ghost use Rattle.layout.specs.Tables.{volumesIn, volumesOk, commitsIn, commitsOk, checkpointsOk, indexOk};
 ghost use Rattle.writecalls.specs.Written.{logsIn};
 ghost use Rattle.paths.specs.Left.{otherLog, isLeft, leftSays};
@@ -54,13 +50,7 @@ fn tables_formed(volumes: &[u8], commits: &[u8], checkpoints: &[u8], index: &[u8
     if !volumes_formed(volumes) {
         return false;
     }
-    if !commits_formed(commits) {
-        return false;
-    }
-    if !checkpoints_formed(checkpoints) {
-        return false;
-    }
-    index_formed(index)
+    logs_formed(commits, checkpoints, index)
 }
 
 // 1, 2 or 3 of the snapshot and of the place for the answer, or 0.
@@ -84,17 +74,6 @@ fn arguments_number(snapshot: &[u8], place: usize) -> u32
 }
 
 // ---- 5: identifiers in use
-
-// Whether no volume of an identifier is stored.
-fn vid_free(volumes: &[u8], vid: VolumeId) -> bool
-    requires { ⌜ volumesOk (now volumes) ≡ true ⌝ }
-    ensures { λ r. ⌜ r ≡ isNone (getVolume (volumesIn (now (volumes .entry))) vid) ⌝ }
-{
-    match find_volume(volumes, vid) {
-        Spot::At(_) => false,
-        Spot::Gap(_) => true,
-    }
-}
 
 // Whether a log has no commit.
 fn log_free(commits: &[u8], log: LogId) -> bool
@@ -138,14 +117,6 @@ fn new_volume(vid: VolumeId, local: LogId, remote: LogId) -> Volume
         PendingCommit::Missing,
         commit_hash::zero(),
     )
-}
-
-// The bytes of a volume, over as many.
-fn put_out(out: &mut [u8], v: Volume)
-    requires { ⌜ length (now out) ≡ 117 ⌝ }
-    ensures { λ _. ⌜ now (out .exit) ≡ volumeBytes .spell (volumeSays v) ⌝ }
-{
-    volume_write(out, 0, v);
 }
 
 // ---- a path copied

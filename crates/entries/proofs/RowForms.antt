@@ -1,36 +1,26 @@
 -- What is asked of the bytes of each record: the reserved byte is 0, and an LSN or a page number is not 0, which a complement is where all its bits are set.
-use Prim.Native.Nat.{ℕ, zero, suc, _+_, _-_, _^_, _<_, _≤_}
-use mathlib.Core.Path.{_≡_, refl, sym, ap, ap₂, _∙_, subst}
-use mathlib.Core.List.{List, [], _∷_}
+use Prim.Native.Nat.{ℕ, _+_, _-_, _^_, _<_, _≤_}
+use mathlib.Core.Path.{_≡_, refl, sym, ap, ap₂, _∙_}
+use mathlib.Core.List.{List}
 use mathlib.Core.Bool.{Bool, true, false, not, _&&_}
 use native.Mathlib.Omega.{arith}
-use lib.Dec.{eqb, leb, ltb}
-use lib.ListN.{length, getD}
+use lib.Dec.{eqb, leb}
+use lib.ListN.{length}
 use borrow.Author.Tests.{eq-eqb, ne-eqb, eqb-true, eqb-false, lt-ltb, le-ltb, le-leb}
 use Rattle.octets.specs.Bytes.{be, part, AreBytes}
 use Rattle.octets.proofs.Places as P
 use Rattle.table.proofs.Rows.{key-at}
 use Rattle.core.specs.Numbers.{lastLsn, lastPage, counts}
-use Rattle.rules.specs.Lists.{all}
-use Rattle.rules.specs.Forms.{lsnForm, pageForm, bytesForm, idForm, checkpointForm, entryForm, presentForm}
+use Rattle.rules.specs.Forms.{lsnForm, pageForm, idForm, checkpointForm, entryForm, presentForm}
 use Rattle.rules.proofs.TableLaws.{cases, and-fst}
-use Rattle.layout.specs.Codecs.{Codec, number, complement, raw, reserved, pair, spelled, inForm}
+use Rattle.layout.specs.Codecs.{Codec, number, complement, pair, inForm}
 use Rattle.layout.specs.Values.{idBytes}
 use Rattle.layout.specs.Records.{logLsnBytes, logPageLsnBytes, sidPageBytes, checkpointOf, checkpointParts, checkpointBytes, entryOf, entryParts, entryBytes, presentOf, presentParts, presentBytes}
 use Rattle.layout.proofs.SpellLaws as S
-use Rattle.layout.proofs.PlainLaws.{Plain, number-plain, complement-plain, raw-plain, pair-plain, key-spelled}
+use Rattle.layout.proofs.PlaceLaws.{id-form}
+use Rattle.layout.proofs.PlainLaws.{number-plain, complement-plain, raw-plain, pair-plain, key-spelled}
 
 -- ---- fields
-
-all-small : (b : List ℕ) → AreBytes b → all (λ x. ltb x 256) b ≡ true
-unfolding all
-all-small [] ab = refl
-all-small (x ∷ b) ab = ap₂ _&&_ (lt-ltb x 256 (ab 0)) (all-small b (λ i. ab (suc i)))
-
--- 16 bytes are an identifier
-id-any : (b : List ℕ) → AreBytes b → length b ≡ 16 → idForm b ≡ true
-unfolding bytesForm
-id-any b ab e = ap₂ _&&_ (eq-eqb (length b) 16 e) (all-small b ab)
 
 -- a number that may be m at most is 0 where its complement is m
 complement-counts : (m w : ℕ) → w ≤ m → (counts (m - w) && leb (m - w) m) ≡ not (eqb w m)
@@ -66,7 +56,7 @@ page-up w h = number-counts 4294967295 w (omega arith)
 -- a page of a segment, as the code holds it, is in form where the page is not 0
 pub present-formed : (sid : List ℕ) (page : ℕ) → AreBytes sid → length sid ≡ 16 → page < 256 ^ 4 → 0 < page → presentForm (record { sid = sid; page = page }) ≡ true
 unfolding presentForm
-present-formed sid page b l h z = ap₂ _&&_ (id-any sid b l) (page-up page h ∙ ap not (ne-eqb page 0 (λ e. omega arith)))
+present-formed sid page b l h z = ap₂ _&&_ (id-form sid l b) (page-up page h ∙ ap not (ne-eqb page 0 (λ e. omega arith)))
 
 -- ---- the record at a place
 
@@ -75,7 +65,7 @@ module _ (s : List ℕ) (at : ℕ) (by : AreBytes s) where
   id-at : (n : ℕ) → at + (17 + n) ≤ length s → idForm (part 0 16 (part 1 (16 + n) (part at (17 + n) s))) ≡ true
   id-at n h =
       let e : part 0 16 (part 1 (16 + n) (part at (17 + n) s)) ≡ part (at + 1) 16 s = key-at (16 + n) 16 1 (part at (17 + n) s) (omega arith) ∙ P.part-part at (17 + n) 1 16 s (omega arith) in
-      ap idForm e ∙ id-any (part (at + 1) 16 s) (P.bytes-part (at + 1) 16 s by) (P.length-part (at + 1) 16 s (omega arith))
+      ap idForm e ∙ id-form (part (at + 1) 16 s) (P.length-part (at + 1) 16 s (omega arith)) (P.bytes-part (at + 1) 16 s by)
 
   -- a field of it
   field-at : (n j k : ℕ) → j + k ≤ n → part (16 + j) k (part 1 (16 + n) (part at (17 + n) s)) ≡ part (at + (17 + j)) k s

@@ -18,6 +18,7 @@ use Rattle.rules.specs.Records.{Commit, Range}
 use Rattle.rules.specs.Pages.{numbers}
 use Rattle.rules.specs.Walk.{pathCommits}
 use Rattle.rules.proofs.TableLaws.{cases, map-append}
+use Rattle.rules.proofs.PageLaws.{length-numbers}
 use Rattle.table.specs.Table.{countOf, capOf}
 use Rattle.table.specs.declared.Run.{Run}
 use Rattle.table.proofs.Checks.{well-count}
@@ -37,11 +38,6 @@ pub runs-8 : (p : Path) (vs : List Val) → Is (row the-type) p vs → length (p
 runs-8 p vs g = sym (length-map (p .runs) _) ∙ g .1 .1 .0 .1 .0 .1
 
 -- ---- numbers in a row
-
-length-numbers : (a n : ℕ) → length (numbers a n) ≡ n
-unfolding numbers
-length-numbers a zero = refl
-length-numbers a (suc n) = ap suc (length-numbers (suc a) n)
 
 place-in : (a n k : ℕ) (ps : List ℕ) → k < n → placeAt k (numbers a n ++ ps) ≡ At (a + k)
 unfolding numbers

@@ -12,14 +12,14 @@ use Rattle.pageset.specs.declared.PageSet.{PageSet}
 use Rattle.pageset.specs.Sets.{holds, shown, member, normalForm, normal}
 use Rattle.pageset.specs.Says.{emptySet, IsSet}
 use Rattle.pageset.proofs.ResultLaws.{one-set}
-use Rattle.rules.specs.Lists.{given, isSome}
+use Rattle.rules.specs.Lists.{isSome}
 use Rattle.rules.specs.Records.{Pages, Segment, Commit}
 use Rattle.rules.specs.Pages.{isEmpty, masked, truncated, minus}
-use Rattle.rules.specs.Forms.{segmentForm, listsForm, commitForm}
 use Rattle.rules.specs.Write.{pagesOf}
 use Rattle.rules.specs.Walk.{notTaken}
-use Rattle.rules.proofs.TableLaws.{and-fst, and-snd, clash}
-use Rattle.rules.proofs.PageLaws.{form-rising, empty-form, holds-truncated, holds-minus}
+use Rattle.rules.proofs.TableLaws.{clash}
+use Rattle.rules.proofs.Write.{set-form}
+use Rattle.rules.proofs.PageLaws.{form-rising, holds-truncated, holds-minus}
 use Rattle.rules.proofs.PageCounts.{truncated-normal, minus-normal}
 use Rattle.table.specs.Table.{countOf}
 use Rattle.layout.specs.Values.{windowBytes, setBytes, frameBytes, framesBytes, segmentBytes}
@@ -36,17 +36,9 @@ use Rattle.commits.specs.Places.{commitAt}
 
 -- ---- the pages of a commit
 
-pub pages-normal : (c : Commit) → commitForm c ≡ true → normalForm (pagesOf (c .segment)) ≡ true
-unfolding commitForm segmentForm listsForm
-pages-normal c e = go (c .segment) (search (and-fst, and-snd))
-  where
-    go : (o : Option Segment) → given segmentForm o ≡ true → normalForm (pagesOf o) ≡ true
-    go none h = empty-form
-    go (some s) h = search (and-fst, and-snd)
-
 module _ (t : List ℕ) (ok : commitsOk t ≡ true) (i : ℕ) (l : i < countOf t) where
   pub row-normal : normalForm (pagesOf (commitAt t i .segment)) ≡ true
-  row-normal = pages-normal (commitAt t i) (row-form commits t ok i l)
+  row-normal = set-form (commitAt t i) (row-form commits t ok i l)
 
 -- no segment, no pages
 pub no-pages : (o : Option Segment) → isSome o ≡ false → emptySet ≡ setLaid (pagesOf o)

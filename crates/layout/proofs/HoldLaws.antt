@@ -3,11 +3,11 @@ use Prim.Native.Nat.{ℕ, zero, suc, _+_, _-_, _*_, _^_, _<_, _≤_, min}
 use mathlib.Core.Path.{_≡_, refl, sym, ap, ap₂, _∙_, subst}
 use mathlib.Core.List.{List, [], _∷_, _++_, map}
 use mathlib.Core.Option.{Option, none, some}
-use mathlib.Core.Bool.{Bool, true, false, cond, _&&_}
+use mathlib.Core.Bool.{Bool, true, cond}
 use native.Mathlib.Omega.{arith}
-use lib.Dec.{eqb, leb}
-use lib.ListN.{length, take, drop, getD, replicate, length-replicate, length-append}
-use Rattle.octets.specs.Bytes.{be, bytesOf, down, part, AreBytes, allZero}
+use lib.Dec.{eqb}
+use lib.ListN.{length, replicate, length-replicate, length-append}
+use Rattle.octets.specs.Bytes.{be, bytesOf, part, AreBytes}
 use Rattle.octets.specs.Order.{lex, isEqual}
 use Rattle.octets.specs.Flat.{flat}
 use Rattle.octets.proofs.Numbers as N

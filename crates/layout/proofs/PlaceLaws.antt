@@ -13,7 +13,8 @@ use Rattle.octets.specs.Bytes.{be, bytesOf, part, put, AreBytes, allZero}
 use Rattle.octets.proofs.Places as P
 use Rattle.core.specs.Numbers.{counts, lastLsn}
 use Rattle.rules.specs.Lists.{all, given}
-use Rattle.rules.specs.Forms.{lsnForm, bytesForm}
+use Rattle.rules.specs.Records.{Id}
+use Rattle.rules.specs.Forms.{lsnForm, bytesForm, idForm}
 use Rattle.rules.proofs.TableLaws.{and-both}
 use Rattle.layout.specs.Codecs.{Codec, number, raw, reserved, optional, pair, viewed, spelled, inForm}
 use Rattle.layout.proofs.SpellLaws as S
@@ -24,6 +25,11 @@ pub all-bytes : (b : List ℕ) → AreBytes b → all (λ x. ltb x 256) b ≡ tr
 unfolding all
 all-bytes [] h = refl
 all-bytes (x ∷ b) h = and-both (lt-ltb x 256 (h 0)) (all-bytes b (λ i. h (suc i)))
+
+-- 16 bytes are an identifier
+pub id-form : (a : Id) → length a ≡ 16 → AreBytes a → idForm a ≡ true
+unfolding bytesForm
+id-form a l b = and-both (eq-eqb (length a) 16 l) (all-bytes a b)
 
 module _ (s : List ℕ) (at : ℕ) where
   -- the front of a run

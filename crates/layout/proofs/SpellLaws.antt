@@ -4,12 +4,12 @@
 use Prim.Native.Nat.{ℕ, zero, suc, _+_, _-_, _*_, _^_, _<_, _≤_, min}
 use mathlib.Core.Path.{_≡_, refl, sym, ap, ap₂, _∙_, subst}
 use mathlib.Core.List.{List, [], _∷_, _++_, map}
-use mathlib.Core.Option.{Option, none, some}
+use mathlib.Core.Option.{none, some}
 use mathlib.Core.Bool.{Bool, true, false, cond, _&&_}
 use native.Mathlib.Omega.{arith}
 use lib.Dec.{eqb, leb}
-use lib.ListN.{length, take, drop, getD, replicate, length-replicate, length-append}
-use borrow.Author.Tests.{eq-eqb, ne-eqb, eqb-true, eqb-false, le-leb, lt-leb, leb-true, leb-false}
+use lib.ListN.{length, replicate, length-replicate, length-append}
+use borrow.Author.Tests.{eq-eqb, ne-eqb, leb-true, leb-false}
 use Rattle.octets.specs.Bytes.{be, bytesOf, down, part, AreBytes, allZero}
 use Rattle.octets.specs.Order.{lex, isEqual, order, thenBy}
 use Rattle.octets.specs.Flat.{flat}
@@ -19,10 +19,10 @@ use Rattle.octets.proofs.Numbers as N
 use Rattle.octets.proofs.Places as P
 use Rattle.octets.proofs.Orders as O
 use Rattle.table.specs.Table.{runs}
-use Rattle.table.proofs.Rows.{length-runs, rows-sub, rows-le}
+use Rattle.table.proofs.Rows.{rows-sub}
 use Rattle.rules.specs.Lists.{all}
-use Rattle.rules.proofs.TableLaws.{cases}
-use Rattle.layout.specs.Codecs.{Codec, number, complement, raw, padded, reserved, flagged, optional, listed, pair, viewed, spelled, inForm, Holds}
+use Rattle.rules.proofs.TableLaws.{cases, eqb-turn}
+use Rattle.layout.specs.Codecs.{Codec, number, complement, raw, padded, reserved, flagged, optional, listed, pair, viewed, spelled}
 
 -- ---- bytes that are the same
 
@@ -45,9 +45,6 @@ two-fields j k x y b e l =
     ap (λ c. isEqual (lex (x ++ y) c)) cut
     ∙ ap isEqual (O.lex-append x y (part 0 j b) (part j k b) long)
     ∙ then-same (lex x (part 0 j b)) (lex y (part j k b))
-
-eqb-turn : (m n : ℕ) → eqb m n ≡ eqb n m
-eqb-turn m n = cases (eqb m n) (λ e. e ∙ sym (eq-eqb n m (sym (eqb-true m n e)))) (λ e. e ∙ sym (ne-eqb n m (λ q. eqb-false m n e (sym q))))
 
 -- zeros
 pub zeros-same : (b : List ℕ) → isEqual (lex (replicate (length b) 0) b) ≡ allZero b

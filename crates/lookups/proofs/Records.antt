@@ -1,32 +1,20 @@
 -- A record's fields, tested one by one as the code does: the identifier as bytes, then the numbers.
-use Prim.Native.Nat.{ℕ, _+_, _-_, _<_, _≤_}
-use mathlib.Core.Path.{_≡_, refl, sym, ap, ap₂, _∙_}
+use Prim.Native.Nat.{ℕ, _+_, _<_, _≤_}
+use mathlib.Core.Path.{_≡_, sym, ap, _∙_}
 use mathlib.Core.List.{List}
 use mathlib.Core.Bool.{Bool, true, false, not, _&&_}
 use native.Mathlib.Omega.{arith}
-use lib.Dec.{eqb, leb, isEq}
+use lib.Dec.{eqb, leb}
 use borrow.Author.Tests.{eq-eqb, ne-eqb, le-leb, lt-leb, not-true, not-false}
 use Rattle.octets.specs.Bytes.{part}
-use Rattle.octets.specs.Order.{lex, isEqual, ordering}
-use Rattle.octets.specs.declared.Order.{Order}
-use Rattle.octets.specs.declared.Order.the-variants.{Less, Equal, Greater}
+use Rattle.octets.specs.Order.{lex, isEqual}
 use Rattle.octets.proofs.Places as P
-use Rattle.core.specs.Orders.{bytes}
-use Rattle.core.proofs.OrderLaws.{ordering-lex}
 use Rattle.rules.specs.Records.{Range, Checkpoint, Entry}
 use Rattle.rules.specs.Tables.{sameId}
 use Rattle.rules.specs.Search.{entryIn}
+use Rattle.rules.proofs.Facts.{id-is}
 use Rattle.table.proofs.Rows.{key-at}
 use Rattle.layout.specs.Records.{logLsnBytes, logPageLsnBytes, checkpointBytes, entryBytes}
-
--- the code's test of two identifiers is the rules'
-same-is : (o : Order) → isEqual o ≡ isEq (ordering o)
-same-is Less = refl
-same-is Equal = refl
-same-is Greater = refl
-
-pub id-is : (a b : List ℕ) → isEqual (lex a b) ≡ sameId a b
-id-is a b = same-is (lex a b) ∙ ap isEq (ordering-lex a b)
 
 module _ (t : List ℕ) (at : ℕ) where
   -- the identifier of a record stands behind the reserved byte

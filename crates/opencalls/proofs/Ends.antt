@@ -13,12 +13,13 @@ use borrow.Author.Tests.{eq-eqb, ne-eqb}
 use Rattle.octets.specs.Bytes.{AreBytes}
 use Rattle.core.specs.Answers.{Answer, refused, done, code, ask, _>>_}
 use Rattle.core.specs.Orders.{bytes}
-use Rattle.rules.specs.Lists.{any, isSome, given}
+use Rattle.rules.specs.Lists.{any, isSome}
 use Rattle.rules.specs.Records.{Id, Commit, SyncPoint, Volume, volumeKey}
-use Rattle.rules.specs.Forms.{bytesForm, idForm, lsnForm, syncForm, commitForm, volumeForm}
+use Rattle.rules.specs.Forms.{idForm, volumeForm}
 use Rattle.rules.specs.Tables.{Table, fits, store, sameId, latest, latestLsn}
 use Rattle.rules.specs.Open.{Ids, Asked, agreesOn, orSpare, logNamed, syncAt, askedVolume, openedNew, opened, openVolume}
-use Rattle.rules.proofs.TableLaws.{options, option-same, missing, and-fst, and-snd, and-both, all-at, first-some, first-any}
+use Rattle.rules.proofs.TableLaws.{option-same, missing, and-both, first-any}
+use Rattle.rules.proofs.Kept.{latest-form, sync-at-form}
 use Rattle.table.specs.Table.{countOf}
 use Rattle.table.specs.declared.Spot.{Spot}
 use Rattle.table.specs.declared.Spot.the-variants as Spot
@@ -26,7 +27,6 @@ use Rattle.layout.specs.Lent.{lent, after}
 use Rattle.layout.specs.Records.{volumeBytes}
 use Rattle.layout.specs.Tables.{volumesIn, volumesOk, commitsIn, commitsOk, laidOver}
 use Rattle.layout.proofs.LentLaws.{lent-yes}
-use Rattle.layout.proofs.PlaceLaws.{all-bytes}
 use Rattle.rows.specs.Lookups.{nth, atSpot}
 use Rattle.rows.proofs.Rows.{formed-rules, formed-forms, length-rows, laid-same}
 use Rattle.rows.proofs.Tables.{volumes, commits}
@@ -43,23 +43,6 @@ use Rattle.opencalls.specs.declared.Opening.the-variants as Opening
 
 -- ---- the new volume
 
--- n bytes are an identifier
-pub id-good : (a : Id) → length a ≡ 16 → AreBytes a → idForm a ≡ true
-unfolding bytesForm
-id-good a l b = and-both (eq-eqb (length a) 16 l) (all-bytes a b)
-
-commit-lsn : (c : Commit) → commitForm c ≡ true → lsnForm (c .lsn) ≡ true
-unfolding commitForm
-commit-lsn c h = search (and-fst, and-snd)
-
--- a sync point at a log's latest LSN is in form
-sync-good : (u : List ℕ) (log : Id) → commitsOk u ≡ true → given syncForm (syncAt (latestLsn (commitsIn u) log)) ≡ true
-unfolding syncForm
-sync-good u log ok =
-    options (latest (commitsIn u) log) (λ e. ap (λ (o : Option Commit). given syncForm (syncAt (Option·map (λ (c : Commit). c .lsn) o))) e)
-    (λ c e. ap (λ (o : Option Commit). given syncForm (syncAt (Option·map (λ (c : Commit). c .lsn) o))) e
-    ∙ and-both (commit-lsn c (all-at commitForm (commitsIn u .rows) (formed-forms commits u ok) (first-some (λ c. sameId log (c .log)) (commitsIn u .rows) e .0))) refl)
-
 -- what the code makes is the new volume, in form
 pub new-good : (u : List ℕ) → commitsOk u ≡ true → (a : Asked) (x : Ids) (id here there : Id) (s : Sync) (h : List ℕ) (r : CodeVolume)
     → id ≡ orSpare (a .vid) (x .vid) → here ≡ orSpare (a .local) (x .local) → there ≡ orSpare (a .remote) (x .remote) → syncSays s ≡ syncAt (latestLsn (commitsIn u) there)
@@ -73,7 +56,7 @@ new-good u ok a x id here there s h r ei el er es e fi fl fr =
       says
           ∙ ap₂ (λ (i l : Id). record { vid = i; local = l; remote = there; sync = syncAt (latestLsn (commitsIn u) there); pending = none }) ei el
           ∙ ap (λ (z : Id). record { vid = orSpare (a .vid) (x .vid); local = orSpare (a .local) (x .local); remote = z; sync = syncAt (latestLsn (commitsIn u) z); pending = none }) er,
-      ap volumeForm says ∙ and-both (and-both (and-both (and-both fi fl) fr) (sync-good u there ok)) refl,
+      ap volumeForm says ∙ and-both (and-both (and-both (and-both fi fl) fr) (sync-at-form (latestLsn (commitsIn u) there) (latest-form (commitsIn u) there (formed-forms commits u ok)))) refl,
     )
 
 -- ---- a stored volume names the log

@@ -13,7 +13,7 @@ use volume::volume::PendingCommit;
 use volume::volume::Sync;
 use volume::volume::SyncPoint;
 use volume::volume::Volume;
-use volumebytes::volume_write;
+use volumebytes::put_out;
 use volumes::find_volume;
 use volumes::put_volume;
 use volumes::room_for_volume;
@@ -21,7 +21,6 @@ use volumes::volume_at;
 use volumes::volumes_formed;
 ghost use mathlib.Core.Path.{_≡_};
 ghost use mathlib.Core.Bool.{true, _&&_, _||_};
-ghost use lib.ListN.{length};
 ghost use Rattle.core.specs.Answers.{code};
 ghost use Rattle.rules.specs.Lists.{any};
 ghost use Rattle.rules.specs.Records.{Volume as RulesVolume};
@@ -148,10 +147,7 @@ fn vid_free(volumes: &[u8], w: Wanted) -> bool
         return true;
     }
     let spare = w.spare;
-    match find_volume(volumes, spare) {
-        Spot::At(_) => false,
-        Spot::Gap(_) => true,
-    }
+    volumes::vid_free(volumes, spare)
 }
 
 // Whether a log was asked, or its spare is one that no volume or commit names, and not the other log.
@@ -239,14 +235,6 @@ fn open_plan(volumes: &[u8], commits: &[u8], vid: Wanted, local: Wanted, remote:
         return Opening::Refused(6);
     }
     Opening::Stored(i)
-}
-
-// The bytes of a volume, over as many.
-fn put_out(out: &mut [u8], v: Volume)
-    requires { ⌜ length (now out) ≡ 117 ⌝ }
-    ensures { λ _. ⌜ now (out .exit) ≡ volumeBytes .spell (volumeSays v) ⌝ }
-{
-    volume_write(out, 0, v);
 }
 
 // A volume opened, to `out`: the asked one that is stored, or a new one: 20, 3 for another number of lent bytes, 6, 5, 19.

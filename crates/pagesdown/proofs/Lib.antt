@@ -1,7 +1,6 @@
--- The laws that other crates cite. `Walks`: a walk over the pages of a set from the last down. `Belows`: the same by page numbers. `Climbs`: its pages rise.
+-- The laws that other crates cite. `Walks`: a walk over the pages of a set from the last down. `Climbs`: its pages rise.
 -- `LastLaws`: one window. `OneLast`: its last page and its rest are one.
 pub mod LastLaws
 pub mod OneLast
 pub mod Walks
-pub mod Belows
 pub mod Climbs

@@ -1,17 +1,8 @@
 // The pages of a set from the last down. A walk has come to windows that are not yet begun, the first n of the set, and to what is left of one window;
 // each step yields the last page that is left, in a time that does not depend on the set.
-use core::page_count::MaybePage;
-use core::page_count::PageCount;
-use core::pageidx::PageIdx;
-use pageset::PageSet;
 use pageset::Window;
-use pageset::sets;
 ghost use mathlib.Core.Path.{_≡_};
-ghost use mathlib.Core.Bool.{true};
 ghost use Prim.Native.Nat.{_+_, _-_, _<_};
-ghost use Rattle.core.specs.Says.{maybePageSays};
-ghost use Rattle.pageset.specs.Sets.{member, normal};
-ghost use Rattle.pageset.specs.Counts.{highest};
 ghost use Rattle.pagesdown.specs.Down.{LastOf, under, Stepped};
 
 // The last page of a window, and the window without it.
@@ -71,13 +62,4 @@ pub fn next_down(n: usize, w: Window, below: Window) -> Step
         windows: n,
         rest,
     }
-}
-
-// The highest page of a set below page p, or nothing.
-pub fn page_below(s: PageSet, p: PageIdx) -> MaybePage
-    requires { ⌜ normal s ≡ true ⌝ }
-    requires { ⌜ 0 < p .0 ⌝ }
-    ensures { λ r. ⌜ maybePageSays r ≡ highest (member s) (p .0) ⌝ }
-{
-    sets::last(sets::truncate(s, PageCount(p.0 - 1)))
 }

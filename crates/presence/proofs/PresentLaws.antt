@@ -16,6 +16,7 @@ use Rattle.rules.specs.Records.{Id, Present, presentKey}
 use Rattle.rules.specs.Forms.{presentForm}
 use Rattle.rules.specs.Tables.{Table, getPresent, store, remove, fits, sameId}
 use Rattle.rules.specs.Reads.{presentIn}
+use Rattle.rules.proofs.Facts.{id-is}
 use Rattle.table.specs.Records.{spot, place}
 use Rattle.table.specs.Records as T
 use Rattle.table.specs.Table.{recs, countOf, laid}
@@ -32,7 +33,6 @@ use Rattle.rows.proofs.Stores.{put-laid, put-fits}
 use Rattle.rows.proofs.Removals.{run-empty, run-laid}
 use Rattle.rows.proofs.Tables.{presence, present-key}
 use Rattle.rows.proofs.Seeks.{present-at, pages-are}
-use Rattle.lookups.proofs.Records.{id-is}
 use Rattle.presence.specs.Pages.{pageOf, ofSegment}
 
 -- the record of a page is its key

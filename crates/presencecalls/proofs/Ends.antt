@@ -1,5 +1,5 @@
 -- The ends of the calls on present pages: for each way out of the code, the rule's answer. Every rule asks 20 and then 1; past them stands whether the page is
--- present, the store where it fits, or the removal. What a call leaves is the answer's table laid over the bytes, or the bytes as found.
+-- present, the store where it fits, or the removal.
 use Prim.Native.Nat.{ℕ, _<_, _≤_}
 use mathlib.Core.Path.{_≡_, sym, ap, ap₂, _∙_}
 use mathlib.Core.List.{List}
@@ -7,7 +7,7 @@ use mathlib.Core.Bool.{Bool, true, false, _&&_}
 use native.Mathlib.Omega.{arith}
 use borrow.Author.Tests.{lt-ltb, le-ltb, le-leb, lt-leb}
 use lib.Dec.{leb}
-use Rattle.core.specs.Answers.{Answer, refused, done, code, ask, _>>_}
+use Rattle.core.specs.Answers.{Answer, refused, done, ask, _>>_}
 use Rattle.core.specs.Numbers.{counts}
 use Rattle.core.specs.Orders.{sidPage}
 use Rattle.core.proofs.AskLaws.{zero-stopped, zero-passed}
@@ -15,10 +15,9 @@ use Rattle.rules.specs.Lists.{isSome}
 use Rattle.rules.specs.Records.{Id, Present, presentKey}
 use Rattle.rules.specs.Tables.{Table, fits, store, remove, presenceFormed, getPresent}
 use Rattle.rules.specs.Reads.{presentIn, pagePresent, pageMark, pageRemove, pagesRemove}
-use Rattle.layout.specs.Codecs.{Codec}
-use Rattle.layout.specs.Lent.{lent, after}
-use Rattle.layout.specs.Tables.{presenceIn, presenceOk, laidOver}
-use Rattle.layout.proofs.LentLaws.{lent-yes}
+use Rattle.layout.specs.Lent.{lent}
+use Rattle.layout.specs.Tables.{presenceIn, presenceOk}
+use Rattle.layout.proofs.LentLaws.{past-20}
 use Rattle.rows.proofs.Rows.{formed-rules}
 use Rattle.rows.proofs.Tables.{presence}
 use Rattle.presence.specs.Pages.{pageOf}
@@ -28,17 +27,17 @@ abbrev pub marked : List ℕ → Id → ℕ → Table Present
 marked t sid page = store presentKey sidPage (pageOf sid page) (presenceIn t)
 
 module _ (t : List ℕ) (ok : presenceOk t ≡ true) (sid : Id) where
-  past-20 : {A : Type 0} (rest : Answer A) → lent (presenceOk t) (ask (presenceFormed (presenceIn t)) 20 >> rest) ≡ rest
-  past-20 rest = lent-yes (presenceOk t) (ask (presenceFormed (presenceIn t)) 20 >> rest) ok ∙ ap (λ (b : Bool). ask b 20 >> rest) (formed-rules presence t ok)
+  formed : presenceFormed (presenceIn t) ≡ true
+  formed = formed-rules presence t ok
 
   -- ---- one page: 20, 1
 
   module _ (page : ℕ) where
     zero-page : {A : Type 0} (rest : Answer A) → page ≡ 0 → lent (presenceOk t) (ask (presenceFormed (presenceIn t)) 20 >> (ask (counts page) 1 >> rest)) ≡ refused 1
-    zero-page rest z = past-20 (ask (counts page) 1 >> rest) ∙ sym (zero-stopped rest page z)
+    zero-page rest z = past-20 (presenceOk t) (presenceFormed (presenceIn t)) (ask (counts page) 1 >> rest) ok formed ∙ sym (zero-stopped rest page z)
 
     past-1 : {A : Type 0} (rest : Answer A) → (page ≡ 0 → ⊥) → lent (presenceOk t) (ask (presenceFormed (presenceIn t)) 20 >> (ask (counts page) 1 >> rest)) ≡ rest
-    past-1 rest z = past-20 (ask (counts page) 1 >> rest) ∙ sym (zero-passed rest page z)
+    past-1 rest z = past-20 (presenceOk t) (presenceFormed (presenceIn t)) (ask (counts page) 1 >> rest) ok formed ∙ sym (zero-passed rest page z)
 
     pub present-zero : page ≡ 0 → lent (presenceOk t) (pagePresent (presenceIn t) sid page) ≡ refused 1
     unfolding pagePresent
@@ -81,7 +80,7 @@ module _ (t : List ℕ) (ok : presenceOk t ≡ true) (sid : Id) where
 
     asked : lent (presenceOk t) (pagesRemove (presenceIn t) sid a b) ≡ removing (counts a) (counts b) (leb a b)
     unfolding pagesRemove removing
-    asked = past-20 (removing (counts a) (counts b) (leb a b))
+    asked = past-20 (presenceOk t) (presenceFormed (presenceIn t)) (removing (counts a) (counts b) (leb a b)) ok formed
 
     pub range-first : a ≡ 0 → lent (presenceOk t) (pagesRemove (presenceIn t) sid a b) ≡ refused 1
     unfolding removing
@@ -106,16 +105,3 @@ module _ (t : List ℕ) (ok : presenceOk t ≡ true) (sid : Id) where
         pub range-is : a ≤ b → lent (presenceOk t) (pagesRemove (presenceIn t) sid a b) ≡ done (remove (presentIn sid a b) (presenceIn t))
         unfolding removing
         range-is h = ordered true (le-leb a b h)
-
--- ---- what a call that may change a table leaves
-
-module _ {R : Type 0} (c : Codec R) (t : List ℕ) (a : Answer (Table R)) where
-  -- a refusal leaves the bytes as found
-  pub unchanged : (n : ℕ) → a ≡ refused n → (n ≡ code a) × (t ≡ after c (λ w. w) t a)
-  unfolding after
-  unchanged n e = (ap code (sym e), ap (after c (λ w. w) t) (sym e))
-
-  -- else the answer's table is laid over them
-  pub changed : (w : Table R) (u : List ℕ) → a ≡ done w → u ≡ laidOver c w t → (0 ≡ code a) × (u ≡ after c (λ w. w) t a)
-  unfolding after
-  changed w u e h = (ap code (sym e), h ∙ ap (after c (λ w. w) t) (sym e))

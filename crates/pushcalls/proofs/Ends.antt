@@ -7,7 +7,7 @@ use mathlib.Core.List.{List, _∷_}
 use mathlib.Core.Option.{Option, none, some, Option·map}
 use mathlib.Core.Bool.{Bool, true, false, cond, _&&_}
 use native.Mathlib.Omega.{arith}
-use lib.Dec.{eqb, leb}
+use lib.Dec.{eqb}
 use lib.ListN.{length}
 use borrow.Author.Tests.{eq-eqb, ne-eqb, eqb-true}
 use Rattle.octets.specs.Bytes.{part}
@@ -16,14 +16,14 @@ use Rattle.core.specs.Answers.{Answer, refused, done, code, ask, need, _>>_, _>
 use Rattle.core.specs.Hashes.{zeroHash}
 use Rattle.core.specs.Orders.{bytes}
 use Rattle.core.proofs.OrderLaws.{bytes-lawful}
-use Rattle.rules.specs.Lists.{given}
-use Rattle.rules.specs.Records.{Id, Segment, Commit, Pending, Volume, volumeKey}
-use Rattle.rules.specs.Forms.{idForm, lsnForm, syncForm, pendingForm, segmentForm, listsForm, commitForm, volumeForm}
+use Rattle.rules.specs.Records.{Id, Commit, Pending, Volume, volumeKey}
+use Rattle.rules.specs.Forms.{commitForm, volumeForm}
 use Rattle.rules.specs.Tables.{Table, fits, store, get, getVolume, getCommit, volumesFormed}
 use Rattle.rules.specs.Arguments.{commitLsns, commitLists}
 use Rattle.rules.specs.Write.{Logs, write, logsFormed, logsFit}
 use Rattle.rules.specs.Push.{withPending, isHash, sameThere, pushedVolume, push, success, leaves, recoverBy, recoverPending, recoverVolume, recover}
 use Rattle.rules.proofs.TableLaws.{cases, options, option-same, and-fst, and-snd, and-both, formed-parts}
+use Rattle.rules.proofs.Write.{form-lists}
 use Rattle.rules.proofs.Rooms.{fits-replace}
 use Rattle.table.specs.Records.{spot}
 use Rattle.table.specs.Table.{countOf, recs}
@@ -37,7 +37,7 @@ use Rattle.layout.proofs.HoldLaws.{held-form}
 use Rattle.rows.specs.Lookups.{nth, atSpot}
 use Rattle.rows.proofs.Rows.{formed-rules}
 use Rattle.rows.proofs.Checks.{row-in, row-form, row-spelled}
-use Rattle.rows.proofs.Tables.{volumes, commits, checkpoints, index}
+use Rattle.rows.proofs.Tables.{volumes, commits}
 use Rattle.volume.specs.Volumes.{volumeSays, pendingSays}
 use Rattle.core.specs.declared.lsn.Lsn.{Lsn}
 use Rattle.volume.specs.declared.volume.MaybeLsn.the-variants as MaybeLsn
@@ -50,6 +50,7 @@ use Rattle.volumebytes.proofs.RoundLaws.{says-laid}
 use Rattle.volumecalls.proofs.Ends.{here, found-vid}
 use Rattle.synccalls.proofs.Ends.{found-here, form-here}
 use Rattle.writecalls.specs.Written.{IsCommit, commitIn, logsIn, logsOk}
+use Rattle.writecalls.proofs.Formed.{each-ok, logs-formed}
 use Rattle.writecalls.proofs.Rows.{is-form, whole}
 use Rattle.pushcalls.specs.Pushes.{pushOk, commitAsked, successIn, successFound, Stands, PushedAt, DroppedAt, Planned, Recovers, RecoversFound}
 use Rattle.pushcalls.specs.declared.Plan.the-variants as Plan
@@ -59,47 +60,20 @@ use Rattle.pushcalls.specs.declared.Recovery.the-variants as Recovery
 -- ---- 20: the four tables, one after the other
 
 module _ (t cs ks es : List ℕ) where
-  pub no-volumes : volumesOk t ≡ false → false ≡ pushOk t cs ks es
-  unfolding pushOk
-  no-volumes e = ap (λ (x : Bool). x && logsOk cs ks es) (sym e)
-
-  module _ (v1 : volumesOk t ≡ true) where
-    by-logs : (r : Bool) → r ≡ logsOk cs ks es → r ≡ pushOk t cs ks es
-    unfolding pushOk
-    by-logs r e = e ∙ ap (λ (x : Bool). x && logsOk cs ks es) (sym v1)
-
-    pub no-commits : commitsOk cs ≡ false → false ≡ pushOk t cs ks es
-    unfolding logsOk
-    no-commits e = by-logs false (ap (λ (x : Bool). x && checkpointsOk ks && indexOk es) (sym e))
-
-    module _ (c1 : commitsOk cs ≡ true) where
-      by-rest : (r : Bool) → r ≡ (checkpointsOk ks && indexOk es) → r ≡ pushOk t cs ks es
-      unfolding logsOk
-      by-rest r e = by-logs r (e ∙ ap (λ (x : Bool). x && checkpointsOk ks && indexOk es) (sym c1))
-
-      pub no-checkpoints : checkpointsOk ks ≡ false → false ≡ pushOk t cs ks es
-      no-checkpoints e = by-rest false (ap (λ (x : Bool). x && indexOk es) (sym e))
-
-      pub index-decides : checkpointsOk ks ≡ true → (r : Bool) → r ≡ indexOk es → r ≡ pushOk t cs ks es
-      index-decides k1 r e = by-rest r (e ∙ ap (λ (x : Bool). x && indexOk es) (sym k1))
-
   module _ (ok : pushOk t cs ks es ≡ true) where
     pub volumes-ok : volumesOk t ≡ true
     unfolding pushOk
     volumes-ok = and-fst (volumesOk t) (logsOk cs ks es) ok
 
+    all-logs : logsOk cs ks es ≡ true
+    unfolding pushOk
+    all-logs = and-snd (volumesOk t) (logsOk cs ks es) ok
+
     pub logs-ok : (commitsOk cs ≡ true) × (checkpointsOk ks ≡ true) × (indexOk es ≡ true)
-    unfolding pushOk logsOk
-    logs-ok =
-        let l : logsOk cs ks es ≡ true = and-snd (volumesOk t) (logsOk cs ks es) ok in
-        let f : commitsOk cs && checkpointsOk ks ≡ true = and-fst (commitsOk cs && checkpointsOk ks) (indexOk es) l in
-        (and-fst (commitsOk cs) (checkpointsOk ks) f, and-snd (commitsOk cs) (checkpointsOk ks) f, and-snd (commitsOk cs && checkpointsOk ks) (indexOk es) l)
+    logs-ok = each-ok cs ks es all-logs
 
     pub formed : (volumesFormed (volumesIn t) && logsFormed (logsIn cs ks es)) ≡ true
-    unfolding logsFormed
-    formed =
-        and-both (formed-rules volumes t volumes-ok)
-        (and-both (and-both (formed-rules commits cs (logs-ok .0)) (formed-rules checkpoints ks (logs-ok .1))) (formed-rules index es (logs-ok .2)))
+    formed = and-both (formed-rules volumes t volumes-ok) (logs-formed cs ks es all-logs)
 
 -- ---- a commit that is given as bytes
 
@@ -140,17 +114,6 @@ module _ (b : List ℕ) where
 pub refuses : {A : Type 0} (a : Answer A) (n : ℕ) → n ≡ code a → (n ≡ 0 → ⊥) → a ≡ refused n
 refuses (refused m) n e z = ap refused (sym e)
 refuses (done u) n e z = absurd (z e)
-
--- a commit in form has its lists in form
-form-lists : (c : Commit) → commitForm c ≡ true → commitLists c ≡ true
-unfolding commitForm commitLists segmentForm
-form-lists c e =
-    let n : leb (length (c .checkpoints)) 8 ≡ true = search (and-fst, and-snd) in
-    and-both (go (c .segment) (search (and-fst, and-snd))) n
-  where
-    go : (o : Option Segment) → given segmentForm o ≡ true → given listsForm o ≡ true
-    go none h = refl
-    go (some s) h = search (and-fst, and-snd)
 
 -- ---- success up to its volume
 
@@ -364,17 +327,6 @@ pub pushed-says : (v moved r : CodeVolume) (local commit : Lsn) → v .pending �
 pushed-says v moved r local commit is m e p q =
     let s : record { local = local .0; commit = commit .0; hash = v .«pending_hash» } ≡ p = option-same (ap (λ (z : PendingCommit). pendingSays z (v .«pending_hash»)) (sym is) ∙ q) in
     ap volumeSays e ∙ ap (λ (z : CodeVolume). withPending (volumeSays z) none) m ∙ ap (λ (z : Pending). pushedVolume (volumeSays v) z) s
-
--- after a push a volume is in form still
-pub pushed-form : (v : Volume) (p : Pending) → volumeForm v ≡ true → v .pending ≡ some p → volumeForm (pushedVolume v p) ≡ true
-unfolding volumeForm syncForm pendingForm
-pushed-form v p f e =
-    let a : idForm (v .vid) && idForm (v .local) && idForm (v .remote) ≡ true = search (and-fst, and-snd) in
-    let h : given pendingForm (v .pending) ≡ true = search (and-fst, and-snd) in
-    let q : pendingForm p ≡ true = rw e at h in
-    let l : lsnForm (p .local) ≡ true = search (and-fst, and-snd) in
-    let c : lsnForm (p .commit) ≡ true = search (and-fst, and-snd) in
-    and-both (and-both a (and-both c l)) refl
 
 -- the bytes of a stored commit are those of a commit in form
 pub is-stored : (cs : List ℕ) → commitsOk cs ≡ true → (j : ℕ) → j < countOf cs → IsCommit (part (2 + j * 722) 722 cs)

@@ -4,14 +4,11 @@ use commitbytes::commit_form;
 use commitbytes::commit_lsns_ok;
 use commitbytes::fields;
 use commits::Place;
-use commits::commits_formed;
 use commits::find_commit;
 use commits::hash_is;
 use core::commit_hash;
 use core::commit_hash::CommitHash;
 use core::id::VolumeId;
-use entries::checkpoints_formed;
-use entries::index_formed;
 use layout::COMMIT;
 use table::Spot;
 use volume::volume::MaybeLsn;
@@ -23,6 +20,7 @@ use volumes::find_volume;
 use volumes::store_volume;
 use volumes::volume_at;
 use volumes::volumes_formed;
+use writecalls::logs_formed;
 use writecalls::write_room;
 use writecalls::write_stored;
 ghost use mathlib.Core.Path.{_≡_};
@@ -68,13 +66,7 @@ fn push_formed(volumes: &[u8], commits: &[u8], checkpoints: &[u8], index: &[u8])
     if !volumes_formed(volumes) {
         return false;
     }
-    if !commits_formed(commits) {
-        return false;
-    }
-    if !checkpoints_formed(checkpoints) {
-        return false;
-    }
-    index_formed(index)
+    logs_formed(commits, checkpoints, index)
 }
 
 // The number that a commit given as bytes earns by itself: 3 for another number of bytes, 1, 3, or 0.

@@ -2,13 +2,13 @@
 -- pages, the union has over 32 windows, since one of at most 32 could be held by value. Assumes nothing.
 use Prim.Native.Nat.{ℕ, _+_, _-_, _^_, _≤_, _<_, compare}
 use mathlib.Core.Path.{_≡_, refl, sym, ap, ap₂, _∙_}
-use mathlib.Core.Logic.{_⊎_, inl, inr, ⊎-elim}
+use mathlib.Core.Logic.{inl, inr, ⊎-elim}
 use mathlib.Core.Bool.{true, false, _&&_, _||_}
 use mathlib.Core.Option.{Option, none, some}
 use mathlib.Core.List.{List, [], _∷_, _++_}
 use native.Mathlib.Omega.{arith}
 use borrow.Author.Tests.{le-leb, lt-leb, eq-eqb, ne-eqb}
-use lib.Dec.{leb, isEq}
+use lib.Dec.{leb}
 use lib.Bits.{bitOr, or-add-and, and-le-r}
 use lib.ListN.{length, replicate, length-append, length-replicate}
 use lib.Seq.{take-at, drop-at}
@@ -24,13 +24,12 @@ use Rattle.pageset.proofs.WindowLaws.{lt-or}
 use Rattle.core.proofs.OrderLaws.{lt-up, up-lawful}
 use Rattle.rules.specs.Records.{Pages}
 use Rattle.rules.specs.Pages.{withWindow, union}
+use Rattle.rules.proofs.Facts.{id-is}
 use Rattle.rules.proofs.TableLaws.{orders}
 use Rattle.rules.proofs.Union.{holds-union}
-use Rattle.octets.specs.declared.Order.{Order}
-use Rattle.octets.specs.declared.Order.the-variants.{Less, Equal, Greater}
-use Rattle.octets.specs.Order.{lex, ordering, isEqual}
+use Rattle.octets.specs.Order.{lex, isEqual}
 use Rattle.core.specs.Orders.{bytes}
-use Rattle.core.proofs.OrderLaws.{ordering-lex, bytes-lawful}
+use Rattle.core.proofs.OrderLaws.{bytes-lawful}
 use Rattle.rules.specs.Tables.{sameId}
 use Rattle.rules.specs.Frames.{Part, touching, joinedPart, join}
 use Rattle.rules.proofs.TableLaws.{eq-of}
@@ -127,14 +126,6 @@ module _ (a b : SegmentRange) (ea : normal (a .pages) ≡ true) (eb : normal (b 
 
 -- ---- the rule, at each of the code's answers
 
-is-eq : (o : Order) → isEq (ordering o) ≡ isEqual o
-is-eq Less = refl
-is-eq Equal = refl
-is-eq Greater = refl
-
-same-id : (x y : List ℕ) → sameId x y ≡ isEqual (lex x y)
-same-id x y = ap isEq (sym (ordering-lex x y)) ∙ is-eq (lex x y)
-
 module _ (a b : SegmentRange) (r : RangeAnswer) where
   rule-two : (leb (a .start) (a .end) && leb (b .start) (b .end)) ≡ false → refused 2 ≡ joinRule a b
   unfolding joinRule
@@ -169,11 +160,11 @@ module _ (a b : SegmentRange) (r : RangeAnswer) where
       tells o q h = rw (← rule-touch, ← q) h
 
       pub tells-other : isEqual (lex (a .sid) (b .sid)) ≡ false → r ≡ noRange 0 → Tells r (joinRule a b)
-      tells-other e h = tells none (let k = same-id (a .sid) (b .sid) ∙ e in rw k) h
+      tells-other e h = tells none (let k = sym (id-is (a .sid) (b .sid)) ∙ e in rw k) h
 
       module _ (e : isEqual (lex (a .sid) (b .sid)) ≡ true) where
         same-test : sameId (a .sid) (b .sid) ≡ true
-        same-test = same-id (a .sid) (b .sid) ∙ e
+        same-test = sym (id-is (a .sid) (b .sid)) ∙ e
 
         pub tells-after : a .end ≡ b .start → Tells r (joinedPart (some (bothOf a b))) → Tells r (joinRule a b)
         tells-after t h = tells (some (bothOf a b)) (rw (same-test, eq-eqb (a .end) (b .start) t)) h

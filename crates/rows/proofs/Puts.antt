@@ -1,24 +1,25 @@
--- Records put one by one. On the way from bytes t to the table w the bytes u are formed, the records still to come make u's table w, and w laid over u is w
--- laid over t: a put leaves no more records than w has, so w covers whatever it changed. The records to come are one fewer after each put.
+-- Records put one by one, or a run of them at a time. On the way from bytes t to the table w the bytes u are formed, the records still to come make u's table w, and w laid over u is w
+-- laid over t: puts leave no more records than w has, so w covers whatever they changed. The records to come are fewer after each put.
 use Prim.Native.Nat.{ℕ, _≤_, min, Ordering}
 use mathlib.Core.Path.{_≡_, refl, sym, ap, _∙_}
-use mathlib.Core.List.{List, [], _∷_}
-use mathlib.Core.Bool.{Bool, true}
+use mathlib.Core.List.{List, [], _∷_, _++_}
+use mathlib.Core.Bool.{Bool, true, _&&_}
 use native.Mathlib.Omega.{arith}
 use lib.ListN.{length}
 use borrow.Author.Tests.{leb-true, le-leb}
 use Rattle.octets.specs.Bytes.{AreBytes}
 use Rattle.rules.specs.Lists.{all}
-use Rattle.rules.specs.Tables.{Table, fits, put, putAll, formed, store, storeAll}
+use Rattle.rules.specs.Tables.{Table, fits, put, putAll, formed, storeAll}
 use Rattle.rules.proofs.TableLaws as Rules
 use Rattle.rules.proofs.Rooms.{length-putAll}
+use Rattle.rules.proofs.RoomOfCalls.{putAll-append}
 use Rattle.table.specs.Records as T
 use Rattle.table.specs.Table.{recs, laid}
 use Rattle.table.specs.Table as B
 use Rattle.layout.specs.Codecs.{Codec}
 use Rattle.layout.specs.Tables.{formedIn, tableIn, laidOver}
 use Rattle.rows.proofs.Rows.{Layout, formed-two, formed-up, formed-rules, laid-same, laid-after}
-use Rattle.rows.proofs.Stores.{put-laid, put-fits, store-holds}
+use Rattle.rows.proofs.Stores.{put-laid, put-fits, storeAll-holds}
 
 module _ {R K : Type 0} {c : Codec R} {s k : ℕ} {form : R → Bool} {key : R → K} {order : K → K → Ordering} (L : Layout c s k form key order) where
   -- u is on the way from t to w, with the records xs to come
@@ -34,59 +35,75 @@ module _ {R K : Type 0} {c : Codec R} {s k : ℕ} {form : R → Bool} {key : R �
       → Storing xs t (storeAll key order xs (tableIn c t)) t
   storing-start xs t f e h = record { forms = f; good = e; coming = refl; room = h; covers = refl }
 
+  -- a run xs of the records to come, and ys behind it
+  module _ (xs ys : List R) (t : List ℕ) (w : Table R) (u : List ℕ) (h : Storing (xs ++ ys) t w u) where
+    both : all form xs && all form ys ≡ true
+    both = sym (Rules.all-append form xs ys) ∙ h .forms
+
+    pub now-form : all form xs ≡ true
+    now-form = Rules.and-fst (all form xs) (all form ys) both
+
+    then-form : all form ys ≡ true
+    then-form = Rules.and-snd (all form xs) (all form ys) both
+
+    then-coming : storeAll key order ys (storeAll key order xs (tableIn c u)) ≡ w
+    then-coming = (λ i. record { room = tableIn c u .room; rows = sym (putAll-append key order xs ys (tableIn c u .rows)) i }) ∙ h .coming
+
+    -- the table after the run has no more records than w
+    fewer : length (putAll key order xs (tableIn c u .rows)) ≤ length (w .rows)
+    fewer =
+        omega (arith, ap (λ (v : Table R). length (v .rows)) then-coming, length-putAll key order (L .lawful) ys (putAll key order xs (tableIn c u .rows)) (Rules.inOrder-putAll key order (L .lawful) xs (tableIn c u .rows) (formed-up L u (h .good))))
+
+    same-room : w .room ≡ tableIn c u .room
+    same-room = sym (ap (λ (v : Table R). v .room) then-coming)
+
+    -- there is room for the run
+    pub many-fits : fits (storeAll key order xs (tableIn c u)) ≡ true
+    unfolding fits
+    many-fits =
+        le-leb (length (putAll key order xs (tableIn c u .rows))) (min (tableIn c u .room) 65535)
+        (omega (arith, fewer, leb-true (length (w .rows)) (min (w .room) 65535) (h .room), ap (λ (m : ℕ). min m 65535) same-room))
+
+    formed-then : formed key order form (storeAll key order xs (tableIn c u)) ≡ true
+    formed-then = Rules.formed-storeAll key order (L .lawful) form xs (tableIn c u) now-form (formed-rules L u (h .good)) many-fits
+
+    formed-end : formed key order form w ≡ true
+    formed-end =
+        ap (formed key order form) (sym then-coming)
+        ∙ Rules.formed-storeAll key order (L .lawful) form ys (storeAll key order xs (tableIn c u)) then-form formed-then (ap fits then-coming ∙ h .room)
+
+    -- and after it the others are to come
+    pub storing-many : (v : List ℕ) → v ≡ laidOver c (storeAll key order xs (tableIn c u)) u → Storing ys t w v
+    storing-many v d =
+        let q = storeAll-holds L u (h .good) xs now-form many-fits in
+        let two = formed-two L u (h .good) in
+        record {
+          forms = then-form;
+          good = ap (formedIn c k form) d ∙ q .again;
+          coming = ap (storeAll key order ys) (ap (tableIn c) d ∙ q .table) ∙ then-coming;
+          room = h .room;
+          covers = ap (laidOver c w) d ∙ laid-after L (storeAll key order xs (tableIn c u)) w u formed-then formed-end same-room two fewer ∙ h .covers;
+        }
+
+    -- the table that the bytes hold then
+    pub many-table : (v : List ℕ) → v ≡ laidOver c (storeAll key order xs (tableIn c u)) u → tableIn c v ≡ storeAll key order xs (tableIn c u)
+    many-table v d = ap (tableIn c) d ∙ storeAll-holds L u (h .good) xs now-form many-fits .table
+
+  -- one record of those to come is a run of one
   module _ (x : R) (xs : List R) (t : List ℕ) (w : Table R) (u : List ℕ) (h : Storing (x ∷ xs) t w u) where
     next-form : form x ≡ true
     unfolding all
     next-form = Rules.and-fst (form x) (all form xs) (h .forms)
 
-    next-all : all form xs ≡ true
-    unfolding all
-    next-all = Rules.and-snd (form x) (all form xs) (h .forms)
-
-    next-coming : storeAll key order xs (store key order x (tableIn c u)) ≡ w
-    unfolding putAll
-    next-coming = h .coming
-
-    -- the table after one put has no more records than w
-    fewer : length (put key order x (tableIn c u .rows)) ≤ length (w .rows)
-    fewer =
-        omega (arith, ap (λ (v : Table R). length (v .rows)) next-coming, length-putAll key order (L .lawful) xs (put key order x (tableIn c u .rows)) (Rules.inOrder-put key order (L .lawful) x (tableIn c u .rows) (formed-up L u (h .good))))
-
-    same-room : w .room ≡ tableIn c u .room
-    same-room = sym (ap (λ (v : Table R). v .room) next-coming)
-
-    next-fits : fits (store key order x (tableIn c u)) ≡ true
-    unfolding fits
-    next-fits =
-        le-leb (length (put key order x (tableIn c u .rows))) (min (tableIn c u .room) 65535)
-        (omega (arith, fewer, leb-true (length (w .rows)) (min (w .room) 65535) (h .room), ap (λ (m : ℕ). min m 65535) same-room))
-
-    formed-next : formed key order form (store key order x (tableIn c u)) ≡ true
-    formed-next = Rules.formed-store key order (L .lawful) form x (tableIn c u) next-form (formed-rules L u (h .good)) next-fits
-
-    formed-end : formed key order form w ≡ true
-    formed-end =
-        ap (formed key order form) (sym next-coming)
-        ∙ Rules.formed-storeAll key order (L .lawful) form xs (store key order x (tableIn c u)) next-all formed-next (ap fits next-coming ∙ h .room)
-
-    -- there is room for the next
+    -- there is room for it
     pub storing-fits : B.fits s (T.put k (c .spell x) (recs s u)) u ≡ true
-    storing-fits = put-fits L u (h .good) x next-form ∙ next-fits
+    unfolding putAll
+    storing-fits = put-fits L u (h .good) x next-form ∙ many-fits (x ∷ []) xs t w u h
 
     -- and after its put the others are to come
     pub storing-next : (v : List ℕ) → v ≡ laid (T.put k (c .spell x) (recs s u)) u → Storing xs t w v
-    storing-next v e =
-        let s : Table R = store key order x (tableIn c u) in
-        let d : v ≡ laidOver c s u = e ∙ put-laid L u (h .good) x next-form in
-        let q = store-holds L u (h .good) x next-form next-fits in
-        let two = formed-two L u (h .good) in
-        record {
-          forms = next-all;
-          good = ap (formedIn c k form) d ∙ q .again;
-          coming = ap (storeAll key order xs) (ap (tableIn c) d ∙ q .table) ∙ next-coming;
-          room = h .room;
-          covers = ap (laidOver c w) d ∙ laid-after L s w u formed-next formed-end same-room two fewer ∙ h .covers;
-        }
+    unfolding putAll
+    storing-next v e = storing-many (x ∷ []) xs t w u h v (e ∙ put-laid L u (h .good) x next-form)
 
   -- at the end the bytes are w laid over t
   pub storing-end : (t : List ℕ) (w : Table R) (u : List ℕ) → Storing [] t w u → AreBytes u → u ≡ laidOver c w t

@@ -1,15 +1,18 @@
 -- What the tests of the rules say, as facts.
 use Prim.Native.Nat.{ℕ, _≤_, _<_, Ordering·lt}
-use mathlib.Core.Path.{_≡_, ap}
+use mathlib.Core.Path.{_≡_, refl, ap, _∙_}
 use mathlib.Core.Bool.{true, _&&_}
 use lib.Dec.{leb, eqb, isEq}
 use borrow.Author.Tests.{leb-true, eqb-true, le-leb, eq-eqb}
+use Rattle.octets.specs.declared.Order.{Order}
+use Rattle.octets.specs.declared.Order.the-variants.{Less, Equal, Greater}
+use Rattle.octets.specs.Order.{lex, ordering, isEqual}
 use Rattle.core.specs.Orders.{bytes, logLsn, logPageLsn}
 use Rattle.rules.specs.Records.{Id, Commit, Entry, Range, LogLsn}
 use Rattle.rules.specs.Tables.{sameId}
 use Rattle.rules.specs.Walk.{inRange}
 use Rattle.rules.specs.Search.{entryIn}
-use Rattle.core.proofs.OrderLaws.{equal, lt-up, bytes-lawful, up-lawful}
+use Rattle.core.proofs.OrderLaws.{equal, lt-up, bytes-lawful, up-lawful, ordering-lex}
 use Rattle.rules.proofs.TableLaws.{eq-of, and-fst, and-snd, and-both}
 
 pub same-id : (a b : Id) → sameId a b ≡ true → a ≡ b
@@ -17,6 +20,15 @@ same-id a b e = bytes-lawful .same a b (eq-of (bytes a b) e)
 
 pub id-same : (a b : Id) → a ≡ b → sameId a b ≡ true
 id-same a b e = ap isEq (equal bytes-lawful e)
+
+-- the code's test of two identifiers is the rules'
+pub id-is : (a b : Id) → isEqual (lex a b) ≡ sameId a b
+id-is a b = is-eq (lex a b) ∙ ap isEq (ordering-lex a b)
+  where
+    is-eq : (o : Order) → isEqual o ≡ isEq (ordering o)
+    is-eq Less = refl
+    is-eq Equal = refl
+    is-eq Greater = refl
 
 -- of two keys of one log the first in the order has the higher LSN
 pub falls : (k j : LogLsn) → k .0 ≡ j .0 → logLsn k j ≡ Ordering·lt → j .1 < k .1

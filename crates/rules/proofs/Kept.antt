@@ -31,10 +31,9 @@ use Rattle.rules.specs.Copies.{copyFree, renumbered, newVolume, copied, 
 use Rattle.rules.specs.Reads.{volumeDelete, presentIn, pageMark, pageRemove, pagesRemove, tagDelete, tagReplace}
 use Rattle.rules.specs.Calls.{Tables, Change, writing, opening, saving, preparing, succeeding, dropping, recovering, syncing, copying, copyingRef, deletingVolume, marking, unmarking, unmarkingAll, deletingTag, replacingTag, wellFormed, withVolumes, withLogs, withPresence, withTags, outcome, does, typed, commitTyped, idsTyped, askedTyped, lsnTyped}
 use Rattle.core.proofs.OrderLaws.{bytes-lawful, logLsn-lawful, sidPage-lawful}
-use Rattle.rules.proofs.TableLaws.{cases, options, missing, option-same, and-fst, and-snd, and-both, all-at, all-map, all-weaken, all-those, all-append, length-those, get-some, formed-parts, formed-rows, formed-store, formed-storeAll, formed-remove, Rows}
+use Rattle.rules.proofs.TableLaws.{cases, options, missing, option-same, and-fst, and-snd, and-both, first-some, all-at, all-map, all-weaken, all-those, all-append, length-those, get-some, formed-parts, formed-rows, formed-store, formed-storeAll, formed-remove, Rows}
 use Rattle.rules.proofs.PageLaws.{pages-form}
 use Rattle.rules.proofs.AnswerLaws.{done-same, refused-done, asked, needed, gotten}
-use Rattle.rules.proofs.Lookups.{latest-some}
 use Rattle.rules.proofs.Rooms.{fits-replace}
 use Rattle.rules.proofs.Write.{logs-rows, rows-logs, write-rows, writeAll-rows, written-form}
 
@@ -47,14 +46,36 @@ volume-form vs vid v f e =
 pub commit-form : (cs : Table Commit) (log : Id) (lsn : ℕ) (c : Commit) → Rows commitKey logLsn logLsn-lawful commitForm (cs .rows) → getCommit cs log lsn ≡ some c → commitForm c ≡ true
 commit-form cs log lsn c k e = all-at commitForm (cs .rows) (k .forms) (get-some commitKey logLsn logLsn-lawful (log, lsn) (cs .rows) e .0)
 
-lsn-of : (c : Commit) → commitForm c ≡ true → lsnForm (c .lsn) ≡ true
+-- a number of 64 bits that is not 0 is an LSN
+pub lsn-form : (n : ℕ) → 0 < n → n < 2 ^ 64 → lsnForm n ≡ true
+unfolding lsnForm lastLsn
+lsn-form n p h = and-both (lt-ltb 0 n p) (le-leb n (2 ^ 64 - 1) (omega arith))
+
+-- a commit in form has an LSN in form
+pub lsn-of : (c : Commit) → commitForm c ≡ true → lsnForm (c .lsn) ≡ true
 unfolding commitForm
 lsn-of c e = search (and-fst, and-snd)
 
-latest-form : (cs : Table Commit) (log : Id) (n : ℕ) → Rows commitKey logLsn logLsn-lawful commitForm (cs .rows) → latestLsn cs log ≡ some n → lsnForm n ≡ true
-latest-form cs log n k e =
-    options (latest cs log) (λ q. absurd (missing refl (rw q at e)))
-    (λ c q. rw (← option-same (rw q at e)) (lsn-of c (all-at commitForm (cs .rows) (k .forms) (latest-some cs log c (k .up) q .stored))))
+-- a log's latest LSN is in form, and so is a sync point at it
+pub latest-form : (cs : Table Commit) (log : Id) → all commitForm (cs .rows) ≡ true → given lsnForm (latestLsn cs log) ≡ true
+latest-form cs log f =
+    options (latest cs log) (λ q. rw q) (λ c q. rw q (lsn-of c (all-at commitForm (cs .rows) f (first-some (λ x. sameId log (x .log)) (cs .rows) q .0))))
+
+pub sync-at-form : (o : Option ℕ) → given lsnForm o ≡ true → given syncForm (syncAt o) ≡ true
+unfolding syncForm
+sync-at-form none h = refl
+sync-at-form (some n) h = and-both h refl
+
+-- a sync point's LSNs are in form
+pub mark-form : (s : Option SyncPoint) → given syncForm s ≡ true → given lsnForm (watermarkOf s) ≡ true
+unfolding syncForm
+mark-form none e = refl
+mark-form (some s) e = and-snd (lsnForm (s .remote)) (given lsnForm (s .watermark)) e
+
+pub remote-form : (s : Option SyncPoint) → given syncForm s ≡ true → given lsnForm (remoteOf s) ≡ true
+unfolding syncForm
+remote-form none e = refl
+remote-form (some s) e = and-fst (lsnForm (s .remote)) (given lsnForm (s .watermark)) e
 
 -- ---- a volume in place of the one of its identifier
 
@@ -66,7 +87,8 @@ replaced vs vid v w f e s h =
     formed-store volumeKey bytes bytes-lawful volumeForm w vs h f
     (fits-replace volumeKey bytes bytes-lawful w v vs (k .up) (ap (λ (i : Id). get volumeKey bytes i (vs .rows)) (s ∙ sym (q .1)) ∙ e) (k .fit))
 
-pending-form : (v : Volume) (p : Option Pending) → volumeForm v ≡ true → given pendingForm p ≡ true → volumeForm (withPending v p) ≡ true
+-- with another pending commit in form, or none, and after the push of its own, it is too
+pub pending-form : (v : Volume) (p : Option Pending) → volumeForm v ≡ true → given pendingForm p ≡ true → volumeForm (withPending v p) ≡ true
 unfolding volumeForm
 pending-form v p f h = and-both (and-fst (idForm (v .vid) && idForm (v .local) && idForm (v .remote) && given syncForm (v .sync)) (given pendingForm (v .pending)) f) h
 
@@ -74,27 +96,26 @@ own-pending : (v : Volume) (p : Pending) → volumeForm v ≡ true → v .pendin
 unfolding volumeForm
 own-pending v p f e = let h : given pendingForm (v .pending) ≡ true = search (and-fst, and-snd) in rw e at h
 
-pushed-form : (v : Volume) (p : Pending) → volumeForm v ≡ true → pendingForm p ≡ true → volumeForm (pushedVolume v p) ≡ true
+pub pushed-form : (v : Volume) (p : Pending) → volumeForm v ≡ true → v .pending ≡ some p → volumeForm (pushedVolume v p) ≡ true
 unfolding volumeForm syncForm pendingForm
-pushed-form v p f h =
+pushed-form v p f e =
+    let h : pendingForm p ≡ true = own-pending v p f e in
     let a : idForm (v .vid) && idForm (v .local) && idForm (v .remote) ≡ true = search (and-fst, and-snd) in
     let l : lsnForm (p .local) ≡ true = search (and-fst, and-snd) in
     let c : lsnForm (p .commit) ≡ true = search (and-fst, and-snd) in
     and-both (and-both a (and-both c l)) refl
 
-moved-form : (v : Volume) (n : ℕ) → volumeForm v ≡ true → lsnForm n ≡ true → volumeForm (movedVolume v n) ≡ true
+-- with its sync point moved a volume is in form still
+pub moved-form : (v : Volume) (n : ℕ) → volumeForm v ≡ true → lsnForm n ≡ true → volumeForm (movedVolume v n) ≡ true
 unfolding volumeForm syncForm
 moved-form v n f l =
     let a : idForm (v .vid) && idForm (v .local) && idForm (v .remote) ≡ true = search (and-fst, and-snd) in
     let d : given pendingForm (v .pending) ≡ true = search (and-fst, and-snd) in
     let w : given syncForm (v .sync) ≡ true = search (and-fst, and-snd) in
-    and-both (and-both a (and-both l (mark (v .sync) w))) d
-  where
-    mark : (o : Option SyncPoint) → given syncForm o ≡ true → given lsnForm (watermarkOf o) ≡ true
-    mark none e = refl
-    mark (some s) e = and-snd (lsnForm (s .remote)) (given lsnForm (s .watermark)) e
+    and-both (and-both a (and-both l (mark-form (v .sync) w))) d
 
-new-form : (x : Ids) → idsTyped x ≡ true → volumeForm (newVolume x) ≡ true
+-- a new volume is in form
+pub new-form : (x : Ids) → idsTyped x ≡ true → volumeForm (newVolume x) ≡ true
 unfolding volumeForm
 new-form x h = and-both (and-both h refl) refl
 
@@ -113,18 +134,13 @@ spare-form : (o : Option Id) (x : Id) → given idForm o ≡ true → idForm x �
 spare-form none x a b = b
 spare-form (some y) x a b = a
 
-sync-at-form : (o : Option ℕ) → ((n : ℕ) → o ≡ some n → lsnForm n ≡ true) → given syncForm (syncAt o) ≡ true
-unfolding syncForm
-sync-at-form none h = refl
-sync-at-form (some n) h = and-both (h n refl) refl
-
 opened-form : (cs : Table Commit) (a : Asked) (x : Ids) → commitsFormed cs ≡ true → askedTyped a && idsTyped x ≡ true
     → volumeForm (record { vid = orSpare (a .vid) (x .vid); local = orSpare (a .local) (x .local); remote = orSpare (a .remote) (x .remote); sync = syncAt (latestLsn cs (orSpare (a .remote) (x .remote))); pending = none }) ≡ true
 unfolding volumeForm
 opened-form cs a x f t =
     let k = formed-rows commitKey logLsn logLsn-lawful commitForm cs f in
     and-both (and-both (and-both (and-both (spare-form (a .vid) (x .vid) (search (and-fst, and-snd)) (search (and-fst, and-snd))) (spare-form (a .local) (x .local) (search (and-fst, and-snd)) (search (and-fst, and-snd))))
-    (spare-form (a .remote) (x .remote) (search (and-fst, and-snd)) (search (and-fst, and-snd)))) (sync-at-form (latestLsn cs (orSpare (a .remote) (x .remote))) (λ n q. latest-form cs (orSpare (a .remote) (x .remote)) n k q))) refl
+    (spare-form (a .remote) (x .remote) (search (and-fst, and-snd)) (search (and-fst, and-snd)))) (sync-at-form (latestLsn cs (orSpare (a .remote) (x .remote))) (latest-form cs (orSpare (a .remote) (x .remote)) (k .forms)))) refl
 
 opened-kept : (vs : Table Volume) (cs : Table Commit) (a : Asked) (x : Ids) (o : Option Volume) (r : Volume × Table Volume) → volumesFormed vs ≡ true → commitsFormed cs ≡ true
     → askedTyped a && idsTyped x ≡ true → opened vs cs a x o ≡ done r → volumesFormed (r .1) ≡ true
@@ -149,9 +165,10 @@ next-above (some m) n e =
     asked (ltb m (2 ^ 64 - 1)) 18 _ e λ q e1.
     let s : m + 1 ≡ n = done-same e1 in
     let b = ltb-true m (2 ^ 64 - 1) q in
-    (and-both (lt-ltb 0 n (omega arith)) (le-leb n (2 ^ 64 - 1) (omega arith)), λ k h. omega (arith, option-same h))
+    (lsn-form n (omega arith) (omega arith), λ k h. omega (arith, option-same h))
 
-saved-form : (v : Volume) (lsn count : ℕ) (sid : Id) (pages : Pages) → volumeForm v ≡ true → lsnForm lsn ≡ true → countForm count ≡ true → idForm sid ≡ true → normalForm pages ≡ true
+-- the commit of a save is in form
+pub saved-form : (v : Volume) (lsn count : ℕ) (sid : Id) (pages : Pages) → volumeForm v ≡ true → lsnForm lsn ≡ true → countForm count ≡ true → idForm sid ≡ true → normalForm pages ≡ true
     → commitForm (savedCommit v lsn count sid pages) ≡ true
 unfolding commitForm segmentForm listsForm framesForm lastsFrom all volumeForm lastLsn
 saved-form v lsn count sid pages f l c d s =
@@ -250,7 +267,7 @@ push-kept vs g vid v p c r b is pe h e =
     asked (fits (store volumeKey bytes (pushedVolume v p) vs) && logsFit (write g c)) 19 _ e λ room e1.
     let vf = volume-form vs vid v (b .0) is in
     rw (← done-same e1) (
-      replaced vs vid v (pushedVolume v p) (b .0) is refl (pushed-form v p vf (own-pending v p vf pe)),
+      replaced vs vid v (pushedVolume v p) (b .0) is refl (pushed-form v p vf pe),
       rows-logs (write g c) (and-snd (fits (store volumeKey bytes (pushedVolume v p) vs)) (logsFit (write g c)) room) (write-rows g c h (logs-rows g (b .1))),
     )
 
@@ -315,7 +332,8 @@ syncBy-kept vs vs′ cs vid v (some r) vf cf is q e =
     gotten (changed (watermarkOf (v .sync)) (latestLsn cs (v .local))) _ e λ here k e1.
     asked (isNone here) 8 _ e1 λ even e2.
     asked (notOlder (remoteOf (v .sync)) (r .1)) 17 _ e2 λ new e3.
-    let l = latest-form cs (v .remote) (r .1) (formed-rows commitKey logLsn logLsn-lawful commitForm cs cf) (changed-head (remoteOf (v .sync)) (latestLsn cs (v .remote)) r q) in
+    let k : given lsnForm (latestLsn cs (v .remote)) ≡ true = latest-form cs (v .remote) (formed-rows commitKey logLsn logLsn-lawful commitForm cs cf .forms) in
+    let l : lsnForm (r .1) ≡ true = rw (changed-head (remoteOf (v .sync)) (latestLsn cs (v .remote)) r q) at k in
     rw (← done-same e3) (replaced vs vid v (movedVolume v (r .1)) vf is refl (moved-form v (r .1) (volume-form vs vid v vf is) l))
 
 sync-kept : (vs vs′ : Table Volume) (cs : Table Commit) (vid : Id) → sync vs cs vid ≡ done vs′ → volumesFormed vs′ ≡ true
@@ -333,23 +351,24 @@ path-length cs [] f = omega arith
 path-length cs (r ∷ rs) f =
     omega (arith, length-append (those (inRange r) (cs .rows)) (pathCommits cs rs), length-those (inRange r) (cs .rows), leb-true (length (cs .rows)) (min (cs .room) 65535) f, path-length cs rs f)
 
-path-forms : (cs : Table Commit) (path : List Range) → all commitForm (cs .rows) ≡ true → all commitForm (pathCommits cs path) ≡ true
+-- the commits of a path are in form, and so they are renumbered
+pub path-forms : (cs : Table Commit) (path : List Range) → all commitForm (cs .rows) ≡ true → all commitForm (pathCommits cs path) ≡ true
 unfolding all
 path-forms cs [] f = refl
 path-forms cs (r ∷ rs) f = all-append commitForm (those (inRange r) (cs .rows)) (pathCommits cs rs) ∙ and-both (all-those commitForm (inRange r) (cs .rows) f) (path-forms cs rs f)
 
-renumber-form : (log : Id) (lsn : ℕ) (c : Commit) → idForm log ≡ true → lsnForm lsn ≡ true → commitForm c ≡ true
+pub renumber-form : (log : Id) (lsn : ℕ) (c : Commit) → idForm log ≡ true → lsnForm lsn ≡ true → commitForm c ≡ true
     → commitForm (record { log = log; lsn = lsn; count = c .count; hash = c .hash; segment = c .segment; checkpoints = c .checkpoints }) ≡ true
 unfolding commitForm
 renumber-form log lsn c i l f =
     and-both (and-both (and-both (and-both (and-both (and-both i l) (search (and-fst, and-snd))) (search (and-fst, and-snd))) (search (and-fst, and-snd))) (search (and-fst, and-snd))) (search (and-fst, and-snd))
 
-renumbered-forms : (log : Id) (cs : List Commit) → idForm log ≡ true → length cs ≤ 524280 → all commitForm cs ≡ true → all commitForm (renumbered log cs) ≡ true
-unfolding all lsnForm lastLsn
+pub renumbered-forms : (log : Id) (cs : List Commit) → idForm log ≡ true → length cs ≤ 524280 → all commitForm cs ≡ true → all commitForm (renumbered log cs) ≡ true
+unfolding all
 renumbered-forms log [] i n f = refl
 renumbered-forms log (c ∷ cs) i n f =
     and-both
-    (renumber-form log (suc (length cs)) c i (and-both (lt-ltb 0 (suc (length cs)) (omega arith)) (le-leb (suc (length cs)) (2 ^ 64 - 1) (omega arith))) (and-fst (commitForm c) (all commitForm cs) f))
+    (renumber-form log (suc (length cs)) c i (lsn-form (suc (length cs)) (omega arith) (omega arith)) (and-fst (commitForm c) (all commitForm cs) f))
     (renumbered-forms log cs i (omega arith) (and-snd (commitForm c) (all commitForm cs) f))
 
 commits-fit : (g : Logs) → logsFormed g ≡ true → fits (g .commits) ≡ true

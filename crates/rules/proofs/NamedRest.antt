@@ -7,7 +7,6 @@ use mathlib.Core.List.{List, [], _∷_, map}
 use mathlib.Core.Option.{Option, none, some}
 use mathlib.Core.Bool.{Bool, true, false, cond, not, _&&_}
 use lib.Dec.{eqb, leb, isEq}
-use borrow.Author.Tests.{eqb-true, eqb-false, eq-eqb, ne-eqb}
 use Rattle.core.specs.Answers.{Answer, refused, done}
 use Rattle.core.specs.Numbers.{counts}
 use Rattle.pageset.specs.Sets.{holds, normalForm}
@@ -29,7 +28,7 @@ use Rattle.rules.specs.Reads.{volumeDelete, presentIn, pageMark, pageRem
 use Rattle.rules.specs.Calls.{Tables, Change, writing, opening, saving, preparing, succeeding, dropping, recovering, syncing, copying, copyingRef, deletingVolume, marking, unmarking, unmarkingAll, deletingTag, replacingTag, outcome, does, withVolumes, withLogs, withPresence, withTags}
 use Rattle.rules.specs.Named.{namesVolume, deletesVolume, changesPending, changesSync, VolumeKept, marks, unmarks, namesTag}
 use Rattle.core.proofs.OrderLaws.{bytes-lawful, sidPage-lawful}
-use Rattle.rules.proofs.TableLaws.{none-of, cases, options, clash, missing, option-same, and-fst, and-snd, any-map, any-and, get-some, get-put, get-putAll, get-remove, held-putAll}
+use Rattle.rules.proofs.TableLaws.{none-of, cases, options, clash, missing, option-same, and-fst, and-snd, any-map, any-and, get-some, get-put, get-putAll, get-remove, held-putAll, eqb-turn}
 use Rattle.rules.proofs.PageLaws.{pages-holds, form-rising}
 use Rattle.rules.proofs.Facts.{same-id, id-same}
 use Rattle.rules.proofs.AnswerLaws.{done-same, asked, needed, gotten}
@@ -250,9 +249,6 @@ both-parts : (a b : Ordering) → isEq (next a b) ≡ isEq a && isEq b
 both-parts Ordering·lt b = refl
 both-parts Ordering·eq b = refl
 both-parts Ordering·gt b = refl
-
-eqb-turn : (a b : ℕ) → eqb a b ≡ eqb b a
-eqb-turn a b = cases (eqb a b) (λ q. q ∙ sym (eq-eqb b a (sym (eqb-true a b q)))) (λ q. q ∙ sym (ne-eqb b a (λ z. eqb-false a b q (sym z))))
 
 -- the pages that save makes present: of the segment, and of the set
 saved-pages : (sid : Id) (pages : Pages) (k : SidPage) → normalForm pages ≡ true

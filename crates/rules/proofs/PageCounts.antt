@@ -14,11 +14,12 @@ use borrow.Author.Tests.{leb-true, leb-false, le-leb, lt-leb, lt-ltb, ltb-true, 
 use Rattle.pageset.specs.declared.Window.{Window}
 use Rattle.pageset.specs.Sets.{bit, maskAt, holds, rising, windowForm, windowForms, normalForm}
 use Rattle.pageset.specs.Counts.{count, lowest, orElse}
+use Rattle.pageset.proofs.BitLaws.{bit-none}
 use Rattle.rules.specs.Lists.{those}
 use Rattle.rules.specs.Records.{Pages}
 use Rattle.rules.specs.Pages.{numbers, pagesIn, size, head, firstPage, masked, upTo, truncated, common, without, minus, span}
 use Rattle.rules.proofs.TableLaws.{cases, and-fst, and-snd, and-both, those-append}
-use Rattle.rules.proofs.PageLaws.{bit-zero, rising-masked, mask-below, form-rising, holds-empty, holds-truncated, holds-minus, holds-common}
+use Rattle.rules.proofs.PageLaws.{rising-masked, mask-below, form-rising, holds-empty, holds-truncated, holds-minus, holds-common}
 
 -- ---- runs of numbers
 
@@ -48,7 +49,7 @@ those-none f a (suc n) h = rw (h a (omega arith) (omega arith)) (those-none f (s
 -- what a first window says of the pages before, in and after it
 before-window : (w : Window) (s : Pages) (p : ℕ) → rising (w .index + 1) s ≡ true → p / 64 < w .index → holds (w ∷ s) p ≡ false
 unfolding holds maskAt
-before-window w s p up h = rw (ne-eqb (w .index) (p / 64) (omega arith), mask-below (w .index + 1) (p / 64) s (omega arith) up, bit-zero (p % 64))
+before-window w s p up h = rw (ne-eqb (w .index) (p / 64) (omega arith), mask-below (w .index + 1) (p / 64) s (omega arith) up, bit-none (p % 64))
 
 in-window : (w : Window) (s : Pages) (p : ℕ) → p / 64 ≡ w .index → holds (w ∷ s) p ≡ bit (w .mask) (p % 64)
 unfolding holds maskAt

@@ -5,25 +5,29 @@ use mathlib.Core.Path.{_≡_, refl, sym, ap, _∙_}
 use mathlib.Core.List.{List, [], _∷_}
 use mathlib.Core.Bool.{Bool, true, false, not, _&&_, _||_, and-true, and-false, or-false}
 use native.Mathlib.Omega.{arith}
-use native.Mathlib.Nat.{div-eq-of-lt, mod-lt, zero-div, zero-mod, lt-of-lt-of-le}
+use native.Mathlib.Nat.{div-eq-of-lt, mod-lt, zero-mod, lt-of-lt-of-le}
 use lib.Dec.{leb, ltb, eqb, lit<}
+use lib.ListN.{length}
 use lib.Arith.{digits-mod}
 use lib.Bits.{bitAnd, bitXor, and-shr, xor-shr, and-step, xor-step, differ, and-zero-l, xor-zero-l}
 use lib.Pow.{field, mod-mod-pow, pow-mono, pow-pos}
 use borrow.Author.Tests.{eqb-true, eqb-false, leb-true, leb-false, le-leb, lt-leb, lt-ltb, le-ltb, ltb-true, ltb-false, eq-eqb, ne-eqb, not-true}
 use Rattle.core.specs.Numbers.{lastPage}
 use Rattle.pageset.specs.Sets.{bit, maskAt, holds, rising, windowForm, windowForms, normalForm}
+use Rattle.pageset.proofs.BitLaws.{bit-none, bit-and}
 use Rattle.rules.specs.Lists.{any, all, those}
 use Rattle.rules.specs.Records.{Pages}
 use Rattle.rules.specs.Pages.{numbers, pagesIn, isEmpty, masked, upTo, truncated, common, without, minus}
 use Rattle.rules.specs.Forms.{pageForm}
 use Rattle.rules.proofs.TableLaws.{cases, clash, and-fst, and-snd, and-both, any-append}
 
--- ---- bits
-pub bit-zero : (i : ℕ) → bit 0 i ≡ false
-unfolding bit
-bit-zero i = rw zero-div
+-- n numbers in a row are n
+pub length-numbers : (a n : ℕ) → length (numbers a n) ≡ n
+unfolding numbers
+length-numbers a zero = refl
+length-numbers a (suc n) = ap suc (length-numbers (suc a) n)
 
+-- ---- bits
 -- a mask cut to its low k bits
 bit-low : (m k i : ℕ) → i < k → bit (m % 2 ^ k) i ≡ bit m i
 unfolding bit
@@ -36,16 +40,7 @@ bit-high : (m k i : ℕ) → k ≤ i → bit (m % 2 ^ k) i ≡ false
 unfolding bit
 bit-high m k i h = ap (λ (x : ℕ). eqb (x % 2) 1) (div-eq-of-lt (lt-of-lt-of-le (mod-lt m (pow-pos k)) (pow-mono h)))
 
--- the lowest bits of what is common and of what is left, by the lowest bits
-low-and : (x y : ℕ) → x < 2 → y < 2 → eqb (min x y) 1 ≡ eqb x 1 && eqb y 1
-low-and zero zero p q = refl
-low-and zero (suc zero) p q = refl
-low-and zero (suc (suc y)) p q = absurd (omega arith)
-low-and (suc zero) zero p q = refl
-low-and (suc zero) (suc zero) p q = refl
-low-and (suc zero) (suc (suc y)) p q = absurd (omega arith)
-low-and (suc (suc x)) y p q = absurd (omega arith)
-
+-- the lowest bit of what is left, by the lowest bits
 low-without : (x y : ℕ) → x < 2 → y < 2 → (differ x (min x y) < 2) × (eqb (differ x (min x y)) 1 ≡ eqb x 1 && not (eqb y 1))
 low-without zero zero p q = (lit< tt, refl)
 low-without zero (suc zero) p q = (lit< tt, refl)
@@ -63,12 +58,6 @@ without-lowest a b =
     ap (λ (x : ℕ). x % 2) (xor-step a (bitAnd a b))
     ∙ ap (λ (d : ℕ). (bitXor (a / 2) (bitAnd a b / 2) * 2 + differ (a % 2) d) % 2) (and-lowest a b)
     ∙ digits-mod (bitXor (a / 2) (bitAnd a b / 2)) (low-without (a % 2) (b % 2) (omega arith) (omega arith) .0)
-
-bit-and : (a b i : ℕ) → bit (bitAnd a b) i ≡ bit a i && bit b i
-unfolding bit
-bit-and a b i =
-    ap (λ (x : ℕ). eqb (x % 2) 1) (and-shr a b i) ∙ ap (λ (x : ℕ). eqb x 1) (and-lowest (a / 2 ^ i) (b / 2 ^ i))
-    ∙ low-and (a / 2 ^ i % 2) (b / 2 ^ i % 2) (omega arith) (omega arith)
 
 bit-without : (a b i : ℕ) → bit (without a b) i ≡ bit a i && not (bit b i)
 unfolding bit
@@ -131,7 +120,7 @@ module _ (lo : ℕ) (s : Pages) (up : rising lo s ≡ true) where
       (λ l. let u = leb-true p n l in rw (h, e, l, bit-low (maskAt s (p / 64)) (suc (n % 64)) (p % 64) (omega arith)) (sym (and-true (bit (maskAt s (p / 64)) (p % 64)))))
       (λ l. let u = leb-false p n l in rw (h, e, l, bit-high (maskAt s (p / 64)) (suc (n % 64)) (p % 64) (omega arith)) (sym (and-false (bit (maskAt s (p / 64)) (p % 64))))))
       (λ e. let j = eqb-false (p / 64) (n / 64) e in
-      rw (h, e, lt-leb p n (omega (arith, j)), bit-zero (p % 64)) (sym (and-false (bit (maskAt s (p / 64)) (p % 64)))))))
+      rw (h, e, lt-leb p n (omega (arith, j)), bit-none (p % 64)) (sym (and-false (bit (maskAt s (p / 64)) (p % 64)))))))
     where
       top : (n q : ℕ) → upTo n q 0 ≡ 0
       top n q = cases (ltb q (n / 64)) (λ h. rw h) (λ h. cases (eqb q (n / 64)) (λ e. rw (h, e) (zero-mod (2 ^ suc (n % 64)))) (λ e. rw (h, e)))
@@ -150,7 +139,7 @@ module _ (lo : ℕ) (s : Pages) (up : rising lo s ≡ true) where
 
 pub holds-empty : (p : ℕ) → holds [] p ≡ false
 unfolding holds maskAt
-holds-empty p = bit-zero (p % 64)
+holds-empty p = bit-none (p % 64)
 
 pub empty-holds : (s : Pages) (p : ℕ) → isEmpty s ≡ true → holds s p ≡ false
 empty-holds [] p e = holds-empty p
@@ -177,14 +166,14 @@ among f p a (suc n) =
 
 pub pages-holds : (lo : ℕ) (s : Pages) (p : ℕ) → rising lo s ≡ true → any (λ q. eqb p q) (pagesIn s) ≡ holds s p
 unfolding pagesIn holds any rising maskAt
-pages-holds lo [] p e = sym (bit-zero (p % 64))
+pages-holds lo [] p e = sym (bit-none (p % 64))
 pages-holds lo (w ∷ s) p e =
     let up = and-snd (leb lo (w .index)) (rising (w .index + 1) s) e in
     any-append (λ q. eqb p q) (those (λ q. bit (w .mask) (q % 64)) (numbers (w .index * 64) 64)) (pagesIn s)
     ∙ rw (among (λ q. bit (w .mask) (q % 64)) p (w .index * 64) 64, pages-holds (w .index + 1) s p up)
     (cases (eqb (w .index) (p / 64))
     (λ h. let i = eqb-true (w .index) (p / 64) h in
-    rw (h, and-both (le-leb (w .index * 64) p (omega arith)) (lt-ltb p (w .index * 64 + 64) (omega arith)), mask-below (w .index + 1) (p / 64) s (omega arith) up, bit-zero (p % 64), and-true)
+    rw (h, and-both (le-leb (w .index * 64) p (omega arith)) (lt-ltb p (w .index * 64 + 64) (omega arith)), mask-below (w .index + 1) (p / 64) s (omega arith) up, bit-none (p % 64), and-true)
     (or-false (bit (w .mask) (p % 64))))
     (λ h. let i = eqb-false (w .index) (p / 64) h in
     rw (h, outside (w .index) p i, and-false)))
@@ -218,7 +207,7 @@ all-any f (x ∷ l) h = and-both (h x (rw (eq-eqb x x refl))) (all-any f l (λ p
 
 no-mask : (s : Pages) (p : ℕ) → maskAt s (p / 64) ≡ 0 → holds s p ≡ false
 unfolding holds
-no-mask s p k = rw (k, bit-zero (p % 64))
+no-mask s p k = rw (k, bit-none (p % 64))
 
 -- the pages of a set in normal form are page numbers
 pub pages-form : (s : Pages) → normalForm s ≡ true → all pageForm (pagesIn s) ≡ true

@@ -18,23 +18,25 @@ use Rattle.rules.proofs.AnswerLaws.{refused-done}
 use Rattle.rules.proofs.Rooms.{fits-storeAll}
 use Rattle.rules.proofs.Write.{logs-rows}
 
-putAll-append : {R K : Type 0} (key : R → K) (order : K → K → Ordering) (xs ys l : List R) → putAll key order (xs ++ ys) l ≡ putAll key order ys (putAll key order xs l)
+-- two runs put one after the other
+pub putAll-append : {R K : Type 0} (key : R → K) (order : K → K → Ordering) (xs ys l : List R) → putAll key order (xs ++ ys) l ≡ putAll key order ys (putAll key order xs l)
 unfolding putAll
 putAll-append key order [] ys l = refl
 putAll-append key order (x ∷ xs) ys l = putAll-append key order xs ys _
 
-commits-all : (g : Logs) (cs : List Commit) → writeAll g cs .commits ≡ storeAll commitKey logLsn cs (g .commits)
+-- several commits written: what comes to each table
+pub commits-all : (g : Logs) (cs : List Commit) → writeAll g cs .commits ≡ storeAll commitKey logLsn cs (g .commits)
 unfolding writeAll write putAll
 commits-all g [] = refl
 commits-all g (c ∷ cs) = commits-all (write g c) cs
 
-checkpoints-all : (g : Logs) (cs : List Commit) → writeAll g cs .checkpoints ≡ storeAll checkpointKey logLsn (each checkpointsOf cs) (g .checkpoints)
+pub checkpoints-all : (g : Logs) (cs : List Commit) → writeAll g cs .checkpoints ≡ storeAll checkpointKey logLsn (each checkpointsOf cs) (g .checkpoints)
 unfolding writeAll write putAll each
 checkpoints-all g [] = refl
 checkpoints-all g (c ∷ cs) =
     checkpoints-all (write g c) cs ∙ (λ i. record { room = g .checkpoints .room; rows = sym (putAll-append checkpointKey logLsn (checkpointsOf c) (each checkpointsOf cs) (g .checkpoints .rows)) i })
 
-index-all : (g : Logs) (cs : List Commit) → writeAll g cs .index ≡ storeAll entryKey logPageLsn (each entriesOf cs) (g .index)
+pub index-all : (g : Logs) (cs : List Commit) → writeAll g cs .index ≡ storeAll entryKey logPageLsn (each entriesOf cs) (g .index)
 unfolding writeAll write putAll each
 index-all g [] = refl
 index-all g (c ∷ cs) = index-all (write g c) cs ∙ (λ i. record { room = g .index .room; rows = sym (putAll-append entryKey logPageLsn (entriesOf c) (each entriesOf cs) (g .index .rows)) i })

@@ -3,13 +3,15 @@ use Prim.Native.Nat.{ℕ, min, _≤_, Ordering, Ordering·lt, Ordering·eq, Orde
 use mathlib.Core.Path.{_≡_, refl, sym, ap, _∙_}
 use mathlib.Core.Logic.{_⊎_, inl, inr, ⊎-elim}
 use mathlib.Core.List.{List, [], _∷_, _++_, map, List·Memᴰ, List·Memᴰ·head, List·Memᴰ·tail, List·Memᴰ·not-nil, List·Memᴰ·cases-cons}
-use mathlib.Core.Bool.{Bool, true, false, cond, not, _&&_, _||_, and-eq-true-iff, or-true, and-false, and-or-distrib-left, or-assoc, and-assoc}
+use mathlib.Core.Bool.{Bool, true, false, cond, not, _&&_, _||_, or-true, and-false, and-or-distrib-left, or-assoc, and-assoc}
 use mathlib.Core.Option.{Option, none, some}
 use native.Mathlib.Omega.{arith}
-use lib.Dec.{isEq}
+use lib.Dec.{isEq, eqb}
 use lib.ListN.{length}
-use borrow.Author.Tests.{leb-true, le-leb}
+use borrow.Author.Tests.{leb-true, le-leb, eqb-true, eqb-false, eq-eqb, ne-eqb}
 use Rattle.core.specs.Orders.{isLt}
+use Rattle.pageset.proofs.FormLaws as Form
+pub use Rattle.pageset.proofs.FormLaws.{and-fst, and-snd}
 use Rattle.rules.specs.Lists.{first, those, all, any, isSome, isNone}
 use Rattle.rules.specs.Tables.{inOrder, get, put, putAll, Table, over, fits, formed, store, storeAll, remove}
 use Rattle.core.proofs.OrderLaws.{Lawful, equal, lt≢eq, gt≢eq}
@@ -41,14 +43,12 @@ none-of (some x) q = absurd (clash refl (sym q))
 pub option-same : {A : Type 0} {a b : A} → _≡_ {A = Option A} (some a) (some b) → a ≡ b
 option-same e = cc
 
-pub and-fst : (a b : Bool) → a && b ≡ true → a ≡ true
-and-fst a b e = and-eq-true-iff a b .0 e .0
-
-pub and-snd : (a b : Bool) → a && b ≡ true → b ≡ true
-and-snd a b e = and-eq-true-iff a b .0 e .1
-
 pub and-both : {a b : Bool} → a ≡ true → b ≡ true → a && b ≡ true
-and-both {a} {b} p q = and-eq-true-iff a b .1 (p, q)
+and-both {a} {b} p q = Form.and-both a b p q
+
+-- the order of two numbers in a test of equality does not matter
+pub eqb-turn : (a b : ℕ) → eqb a b ≡ eqb b a
+eqb-turn a b = cases (eqb a b) (λ q. q ∙ sym (eq-eqb b a (sym (eqb-true a b q)))) (λ q. q ∙ sym (ne-eqb b a (λ z. eqb-false a b q (sym z))))
 
 pub lt-of : (o : Ordering) → isLt o ≡ true → o ≡ Ordering·lt
 lt-of Ordering·lt e = refl

@@ -1,6 +1,6 @@
 -- The pages of a union are those of either set, so those of a joined range are those of both. A window put in changes the mask of its own index alone, to
 -- the bits of both, and the windows still rise.
-use Prim.Native.Nat.{ℕ, zero, suc, _+_, _/_, _%_, _^_, _≤_, _<_, max, compare}
+use Prim.Native.Nat.{ℕ, _+_, _/_, _%_, _≤_, compare}
 use mathlib.Core.Path.{_≡_, refl, sym, ap, _∙_}
 use mathlib.Core.List.{[], _∷_}
 use mathlib.Core.Option.{Option, none, some}
@@ -8,39 +8,20 @@ use mathlib.Core.Bool.{Bool, true, false, cond, _&&_, _||_, or-assoc, or-false}
 use native.Mathlib.Omega.{arith}
 use lib.Dec.{leb, eqb}
 use lib.ListN.{length}
-use lib.Arith.{digits-mod}
-use lib.Bits.{bitOr, or-step, or-shr, or-zero-r}
+use lib.Bits.{bitOr, or-zero-r}
 use borrow.Author.Tests.{eqb-true, le-leb, ne-eqb}
 use Rattle.core.specs.Answers.{done}
 use Rattle.pageset.specs.declared.Window.{Window}
 use Rattle.pageset.specs.Sets.{bit, maskAt, holds, rising, normalForm}
+use Rattle.pageset.proofs.BitLaws.{bit-none, bit-or}
 use Rattle.rules.specs.Records.{Pages}
 use Rattle.rules.specs.Pages.{withWindow, union}
 use Rattle.rules.specs.Tables.{sameId}
 use Rattle.rules.specs.Frames.{Part, touching, joinedPart, join}
 use Rattle.core.proofs.OrderLaws.{lt-up, up-lawful}
 use Rattle.rules.proofs.TableLaws.{cases, orders, missing, option-same, and-fst, and-snd, and-both}
-use Rattle.rules.proofs.PageLaws.{bit-zero, mask-below, form-rising, holds-empty}
+use Rattle.rules.proofs.PageLaws.{mask-below, form-rising, holds-empty}
 use Rattle.rules.proofs.AnswerLaws.{done-same, asked}
-
--- ---- bits of either
-low-or : (x y : ℕ) → x < 2 → y < 2 → eqb (max x y) 1 ≡ (eqb x 1 || eqb y 1)
-low-or zero zero p q = refl
-low-or zero (suc zero) p q = refl
-low-or zero (suc (suc y)) p q = absurd (omega arith)
-low-or (suc zero) zero p q = refl
-low-or (suc zero) (suc zero) p q = refl
-low-or (suc zero) (suc (suc y)) p q = absurd (omega arith)
-low-or (suc (suc x)) y p q = absurd (omega arith)
-
-or-lowest : (a b : ℕ) → bitOr a b % 2 ≡ max (a % 2) (b % 2)
-or-lowest a b = ap (λ (x : ℕ). x % 2) (or-step a b) ∙ digits-mod (bitOr (a / 2) (b / 2)) (omega arith)
-
-bit-or : (a b i : ℕ) → bit (bitOr a b) i ≡ (bit a i || bit b i)
-unfolding bit
-bit-or a b i =
-    ap (λ (x : ℕ). eqb (x % 2) 1) (or-shr a b i) ∙ ap (λ (x : ℕ). eqb x 1) (or-lowest (a / 2 ^ i) (b / 2 ^ i))
-    ∙ low-or (a / 2 ^ i % 2) (b / 2 ^ i % 2) (omega arith) (omega arith)
 
 -- ---- a window put in
 
@@ -92,7 +73,7 @@ unfolding holds maskAt
 holds-cons w s p up =
     cases (eqb (w .index) (p / 64))
     (λ h. let i = eqb-true (w .index) (p / 64) h in
-    rw (h, mask-below (w .index + 1) (p / 64) s (omega arith) up, bit-zero (p % 64)) (sym (or-false (bit (w .mask) (p % 64)))))
+    rw (h, mask-below (w .index + 1) (p / 64) s (omega arith) up, bit-none (p % 64)) (sym (or-false (bit (w .mask) (p % 64)))))
     (λ h. rw h)
 
 pub holds-union : (lo : ℕ) (s u : Pages) (p : ℕ) → rising lo s ≡ true → rising 0 u ≡ true → holds (union s u) p ≡ (holds s p || holds u p)

@@ -29,7 +29,8 @@ use Rattle.rules.proofs.Walk.{setRises}
 
 -- ---- forms
 
-set-form : (c : Commit) → commitForm c ≡ true → normalForm (pagesOf (c .segment)) ≡ true
+-- the pages of a commit in form are a set in normal form
+pub set-form : (c : Commit) → commitForm c ≡ true → normalForm (pagesOf (c .segment)) ≡ true
 unfolding commitForm segmentForm listsForm
 set-form c e = go (c .segment) (search (and-fst, and-snd))
   where
@@ -37,7 +38,8 @@ set-form c e = go (c .segment) (search (and-fst, and-snd))
     go none h = empty-form
     go (some s) h = search (and-fst, and-snd)
 
-entries-form : (c : Commit) → commitForm c ≡ true → all entryForm (entriesOf c) ≡ true
+-- what it adds to the index and the checkpoints is in form
+pub entries-form : (c : Commit) → commitForm c ≡ true → all entryForm (entriesOf c) ≡ true
 unfolding commitForm entryForm
 entries-form c e =
     let i : idForm (c .log) ≡ true = search (and-fst, and-snd) in
@@ -45,12 +47,23 @@ entries-form c e =
     all-map entryForm (λ (p : ℕ). record { log = c .log; page = p; lsn = c .lsn }) (pagesIn (pagesOf (c .segment)))
     ∙ all-weaken pageForm _ (pagesIn (pagesOf (c .segment))) (λ p h. and-both (and-both i h) l) (pages-form (pagesOf (c .segment)) (set-form c e))
 
-checkpoints-form : (c : Commit) → commitForm c ≡ true → all checkpointForm (checkpointsOf c) ≡ true
+pub checkpoints-form : (c : Commit) → commitForm c ≡ true → all checkpointForm (checkpointsOf c) ≡ true
 unfolding commitForm checkpointForm
 checkpoints-form c e =
     let i : idForm (c .log) ≡ true = search (and-fst, and-snd) in
     all-map checkpointForm (λ (n : ℕ). record { log = c .log; lsn = n }) (c .checkpoints)
     ∙ all-weaken lsnForm _ (c .checkpoints) (λ p h. and-both i h) (search (and-fst, and-snd))
+
+-- its lists are in form
+pub form-lists : (c : Commit) → commitForm c ≡ true → commitLists c ≡ true
+unfolding commitForm commitLists segmentForm
+form-lists c e =
+    let n : leb (length (c .checkpoints)) 8 ≡ true = search (and-fst, and-snd) in
+    and-both (go (c .segment) (search (and-fst, and-snd))) n
+  where
+    go : (o : Option Segment) → given segmentForm o ≡ true → given listsForm o ≡ true
+    go none h = refl
+    go (some s) h = search (and-fst, and-snd)
 
 -- the three tables' rows, in order and in form
 pub record LogRows (g : Logs) : Type 0 where

@@ -28,6 +28,7 @@ use Rattle.arguments.specs.Replies.{numberedReply}
 use Rattle.arguments.specs.Snapshots.{snapshotIn}
 use Rattle.arguments.proofs.SnapshotLaws.{in-few}
 use Rattle.writecalls.specs.Written.{logsIn}
+use Rattle.writecalls.proofs.Formed.{logs-formed}
 use Rattle.savecalls.specs.Saving.{Saved, saveOk, argumentsIn, saveIn, saveOn, outAfter, Leaves, planned, stored}
 use Rattle.savecalls.proofs.Forms.{Formed, formed, Good, good, set-normal}
 
@@ -107,10 +108,6 @@ module _ (vs cs ks es ps : List ℕ) (vid : Id) (snapshot : List ℕ) (count : �
       asked : Good snapshot pages (length out)
       asked = good snapshot pages (length out) h
 
-      logs-formed : logsFormed (logsIn cs ks es) ≡ true
-      unfolding logsFormed
-      logs-formed = and-both (and-both (formed-rules Layouts.commits cs (tables .commits)) (formed-rules Layouts.checkpoints ks (tables .checkpoints))) (formed-rules Layouts.index es (tables .index))
-
       within : snapshotForm (snapshotIn snapshot) ≡ true
       unfolding snapshotForm
       within = le-leb (length (snapshotIn snapshot .path)) 8 (in-few snapshot)
@@ -123,7 +120,7 @@ module _ (vs cs ks es ps : List ℕ) (vid : Id) (snapshot : List ℕ) (count : �
       by-plan =
           in-rule
           ∙ save-parts (volumesIn vs) (logsIn cs ks es) (presenceIn ps) vid (snapshotIn snapshot) count sid (setBytes .read pages)
-          (and-both (and-both (formed-rules Layouts.volumes vs (tables .volumes)) logs-formed) (formed-rules Layouts.presence ps (tables .presence)))
+          (and-both (and-both (formed-rules Layouts.volumes vs (tables .volumes)) (logs-formed cs ks es (tables .logs))) (formed-rules Layouts.presence ps (tables .presence)))
           (asked .lsns) (asked .order) (and-both within (set-normal pages (asked .set)))
 
       -- 4, 7, 18, 5

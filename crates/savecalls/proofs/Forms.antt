@@ -28,64 +28,28 @@ use Rattle.setbytes.specs.Laid.{setLaid}
 use Rattle.setbytes.proofs.LaidLaws.{laid-normal, says-laid}
 use Rattle.viewcalls.proofs.CheckLaws.{form-len}
 use Rattle.writecalls.specs.Written.{logsOk}
+use Rattle.writecalls.proofs.Formed.{each-ok}
 use Rattle.savecalls.specs.Saving.{setFormed, saveOk, argumentsIn}
 
 -- ---- 20
 
 module _ (vs cs ks es ps : List ℕ) where
-  pub no-volumes : volumesOk vs ≡ false → false ≡ saveOk vs cs ks es ps
-  unfolding saveOk
-  no-volumes e = sym (ap (λ (b : Bool). b && logsOk cs ks es && presenceOk ps) e)
-
-  module _ (v : volumesOk vs ≡ true) where
-    by-logs : saveOk vs cs ks es ps ≡ (logsOk cs ks es && presenceOk ps)
-    unfolding saveOk
-    by-logs = ap (λ (b : Bool). b && logsOk cs ks es && presenceOk ps) v
-
-    no-logs : logsOk cs ks es ≡ false → false ≡ saveOk vs cs ks es ps
-    no-logs e = sym (by-logs ∙ ap (λ (b : Bool). b && presenceOk ps) e)
-
-    pub no-commits : commitsOk cs ≡ false → false ≡ saveOk vs cs ks es ps
-    unfolding logsOk
-    no-commits e = no-logs (ap (λ (b : Bool). b && checkpointsOk ks && indexOk es) e)
-
-    module _ (c : commitsOk cs ≡ true) where
-      pub no-checkpoints : checkpointsOk ks ≡ false → false ≡ saveOk vs cs ks es ps
-      unfolding logsOk
-      no-checkpoints e = no-logs (ap (λ (b : Bool). b && checkpointsOk ks && indexOk es) c ∙ ap (λ (b : Bool). b && indexOk es) e)
-
-      module _ (k : checkpointsOk ks ≡ true) where
-        by-index : logsOk cs ks es ≡ indexOk es
-        unfolding logsOk
-        by-index = ap (λ (b : Bool). b && checkpointsOk ks && indexOk es) c ∙ ap (λ (b : Bool). b && indexOk es) k
-
-        pub no-index : indexOk es ≡ false → false ≡ saveOk vs cs ks es ps
-        no-index e = no-logs (by-index ∙ e)
-
-        pub presence-decides : indexOk es ≡ true → presenceOk ps ≡ saveOk vs cs ks es ps
-        presence-decides e = sym (by-logs ∙ ap (λ (b : Bool). b && presenceOk ps) (by-index ∙ e))
-
   -- all five
   pub record Formed : Type 0 where
     pub volumes : volumesOk vs ≡ true
+    pub logs : logsOk cs ks es ≡ true
     pub commits : commitsOk cs ≡ true
     pub checkpoints : checkpointsOk ks ≡ true
     pub index : indexOk es ≡ true
     pub presence : presenceOk ps ≡ true
 
   pub formed : saveOk vs cs ks es ps ≡ true → Formed
-  unfolding saveOk logsOk
+  unfolding saveOk
   formed e =
       let v = and-fst (volumesOk vs && logsOk cs ks es) (presenceOk ps) e in
       let l = and-snd (volumesOk vs) (logsOk cs ks es) v in
-      let c = and-fst (commitsOk cs && checkpointsOk ks) (indexOk es) l in
-      record {
-        volumes = and-fst (volumesOk vs) (logsOk cs ks es) v;
-        commits = and-fst (commitsOk cs) (checkpointsOk ks) c;
-        checkpoints = and-snd (commitsOk cs) (checkpointsOk ks) c;
-        index = and-snd (commitsOk cs && checkpointsOk ks) (indexOk es) l;
-        presence = and-snd (volumesOk vs && logsOk cs ks es) (presenceOk ps) e;
-      }
+      let f = each-ok cs ks es l in
+      record { volumes = and-fst (volumesOk vs) (logsOk cs ks es) v; logs = l; commits = f .0; checkpoints = f .1; index = f .2; presence = and-snd (volumesOk vs && logsOk cs ks es) (presenceOk ps) e }
 
 -- ---- a set
 

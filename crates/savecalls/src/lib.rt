@@ -2,14 +2,11 @@
 // `save` is the call. It answers on every input, 20 first.
 use arguments::snapshots::snapshot_arg;
 use arguments::snapshots::snapshot_ok;
-use commits::commits_formed;
 use core::id::SegmentId;
 use core::id::VolumeId;
 use core::lsn::Lsn;
 use core::lsn::LsnAnswer;
 use core::page_count::PageCount;
-use entries::checkpoints_formed;
-use entries::index_formed;
 use entries::presence_formed;
 use layout::SET;
 use layout::SNAPSHOT;
@@ -31,6 +28,7 @@ use volumecalls::no_volume;
 use volumes::find_volume;
 use volumes::volume_at;
 use volumes::volumes_formed;
+use writecalls::logs_formed;
 use writecalls::write_room;
 use writecalls::write_stored;
 ghost use mathlib.Core.Path.{_≡_};
@@ -63,13 +61,7 @@ fn tables_formed(
     if !volumes_formed(volumes) {
         return false;
     }
-    if !commits_formed(commits) {
-        return false;
-    }
-    if !checkpoints_formed(checkpoints) {
-        return false;
-    }
-    if !index_formed(index) {
+    if !logs_formed(commits, checkpoints, index) {
         return false;
     }
     presence_formed(presence)

@@ -1,36 +1,30 @@
 -- The commit of a save: what the builders make is the rules' commit laid out, with its own LSN as its checkpoint or with none. By the number of pages that is counted.
-use Prim.Native.Nat.{ℕ, _-_, _^_, _<_}
-use mathlib.Core.Path.{_≡_, refl, sym, ap, _∙_}
+use Prim.Native.Nat.{ℕ, _^_}
+use mathlib.Core.Path.{_≡_, sym, ap, _∙_}
 use mathlib.Core.List.{List, [], _∷_}
 use mathlib.Core.Bool.{Bool, true, cond}
-use native.Mathlib.Omega.{arith}
-use borrow.Author.Tests.{eq-eqb, ne-eqb, le-leb}
+use borrow.Author.Tests.{eq-eqb, ne-eqb}
 use lib.Dec.{eqb}
 use lib.ListN.{length, set}
-use Rattle.octets.specs.Bytes.{put, AreBytes}
+use Rattle.octets.specs.Bytes.{put}
 use Rattle.octets.proofs.Places as P
 use Rattle.core.specs.declared.lsn.Lsn.{Lsn}
 use Rattle.core.specs.declared.page_count.PageCount.{PageCount}
 use Rattle.core.specs.Hashes.{zeroHash}
-use Rattle.core.specs.Numbers.{lastLsn, lastPage}
 use Rattle.pageset.specs.declared.PageSet.{PageSet}
-use Rattle.pageset.specs.Sets.{shown, normal, normalForm, member}
+use Rattle.pageset.specs.Sets.{shown, normal, member}
 use Rattle.pageset.specs.Counts.{count}
 use Rattle.rules.specs.Records as R
-use Rattle.rules.specs.Lists.{all}
-use Rattle.rules.specs.Forms.{idForm, lsnForm, pageForm, countForm, lastsFrom, framesForm, listsForm, segmentForm, presentForm, commitForm, volumeForm}
+use Rattle.rules.specs.Forms.{commitForm}
 use Rattle.rules.specs.Pages.{size}
 use Rattle.rules.specs.Save.{savedCommit}
 use Rattle.rules.proofs.PageCounts.{size-counts}
-use Rattle.rules.proofs.TableLaws.{cases, and-fst, and-snd, and-both}
 use Rattle.commit.specs.Builders.{zeroLsns, newSegment, newCommit, withSegment, withCheckpoints}
 use Rattle.commit.specs.declared.Presence.the-variants.{Missing, Given}
 use Rattle.commit.specs.declared.Commit.{Commit}
 use Rattle.setbytes.proofs.LaidLaws.{laid-says, shown-form}
 use Rattle.commit.specs.Says.{commitSays}
-use Rattle.layout.specs.Codecs.{Codec}
 use Rattle.layout.specs.Records.{commitBytes}
-use Rattle.entries.proofs.RowForms.{present-formed}
 use Rattle.rows.proofs.Rows.{long-is}
 use Rattle.rows.proofs.Tables.{commits}
 use Rattle.commitbytes.specs.Laid.{lsnsLaid, commitLaid}
@@ -63,20 +57,6 @@ module _ (v : R.Volume) (lsn : Lsn) (n : PageCount) (sid : List ℕ) (s : PageSe
   whole k ns z c f =
       f ∙ ap (λ (l : List Lsn). withCheckpoints (withSegment (newCommit (v .local) lsn n) Given (newSegment sid s)) 1 (set l 0 lsn)) z
       ∙ ap (λ (b : Bool). over s (listed b)) (sym (eq-eqb (n .0) (size (shown s)) (k ∙ counted s e m h))) ∙ sym laid-is
-
--- ---- its form: the rules' `Kept` has the same of what they store
-
-id-good : (sid : List ℕ) → AreBytes sid → length sid ≡ 16 → idForm sid ≡ true
-unfolding presentForm
-id-good sid b l = and-fst (idForm sid) (pageForm 1) (present-formed sid 1 b l (omega arith) (omega arith))
-
-pub saved-form : (v : R.Volume) (lsn n : ℕ) (sid : List ℕ) (pages : R.Pages) → volumeForm v ≡ true → lsnForm lsn ≡ true → n < 2 ^ 32 → AreBytes sid → length sid ≡ 16 → normalForm pages ≡ true
-    → commitForm (savedCommit v lsn n sid pages) ≡ true
-unfolding commitForm segmentForm listsForm framesForm lastsFrom all volumeForm countForm lastLsn lastPage
-saved-form v lsn n sid pages f l c b d s =
-    let i : idForm (v .local) ≡ true = search (and-fst, and-snd) in
-    and-both (and-both (and-both (and-both (and-both (and-both i l) (le-leb n (2 ^ 32 - 1) (omega arith))) refl) (and-both (id-good sid b d) (and-both s refl))) (cases (eqb n (size pages)) (λ q. rw q) (λ q. rw q)))
-    (cases (eqb n (size pages)) (λ q. rw q (and-both l refl)) (λ q. rw q))
 
 -- ---- its bytes
 

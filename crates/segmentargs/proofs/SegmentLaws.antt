@@ -32,7 +32,8 @@ use Rattle.arguments.specs.declared.Reply.{Reply}
 use Rattle.arguments.specs.Replies.{none-under, given}
 use Rattle.segmentargs.specs.Segments.{notARange, rangeIn, rangeArg, rangeBytes, rangeLeft, touchRule, joinLeft, rangePut}
 use Rattle.arguments.proofs.SetLaws.{Early, is-early, set-long, empty-normal}
-use Rattle.arguments.specs.Sets.{sized, early}
+use Rattle.layout.specs.Lent.{sized}
+use Rattle.arguments.specs.Sets.{early}
 use Rattle.arguments.proofs.ArgLaws.{whole}
 
 pub segment-size : segmentBytes .size ≡ 594

@@ -21,7 +21,8 @@ use Rattle.setbytes.specs.Laid.{setLaid}
 use Rattle.arguments.specs.declared.Reply.{Reply}
 use Rattle.arguments.specs.Args.{argument, notASet}
 use Rattle.arguments.specs.Replies.{none-under, valueOr}
-use Rattle.arguments.specs.Sets.{sized, early}
+use Rattle.layout.specs.Lent.{sized}
+use Rattle.arguments.specs.Sets.{early}
 
 -- a segment that is not in form: its set is not
 unfoldable pub notASegment : SegmentIdx

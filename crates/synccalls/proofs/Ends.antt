@@ -15,13 +15,14 @@ use Rattle.core.specs.Hashes.{isZero}
 use Rattle.core.specs.Orders.{bytes}
 use Rattle.octets.specs.Bytes.{AreBytes}
 use Rattle.rules.specs.Lists.{isNone, given}
-use Rattle.rules.specs.Records.{Id, Commit, SyncPoint, Pending, Volume, volumeKey}
-use Rattle.rules.specs.Forms.{bytesForm, idForm, lsnForm, syncForm, pendingForm, commitForm, volumeForm}
-use Rattle.rules.specs.Tables.{Table, store, getVolume, latest, latestLsn, sameId, volumesFormed, commitsFormed}
+use Rattle.rules.specs.Records.{Id, Commit, Pending, Volume, volumeKey}
+use Rattle.rules.specs.Forms.{bytesForm, idForm, lsnForm, syncForm, pendingForm, volumeForm}
+use Rattle.rules.specs.Tables.{Table, store, getVolume, latestLsn, volumesFormed, commitsFormed}
 use Rattle.rules.specs.Snapshots.{watermarkOf, remoteOf, below}
 use Rattle.rules.specs.Sync.{changed, changes, movedVolume, notOlder, syncBy, sync}
 use Rattle.rules.specs.Push.{withPending, isBefore, prepare}
-use Rattle.rules.proofs.TableLaws.{cases, options, missing, option-same, and-fst, and-snd, and-both, all-at, first-some}
+use Rattle.rules.proofs.TableLaws.{cases, missing, option-same, and-fst, and-snd, and-both}
+use Rattle.rules.proofs.Kept.{mark-form, remote-form, moved-form, latest-form}
 use Rattle.rules.proofs.AnswerLaws.{done-same, refused-done}
 use Rattle.table.specs.Records.{spot}
 use Rattle.table.specs.Table.{recs}
@@ -30,7 +31,7 @@ use Rattle.table.specs.declared.Spot.the-variants.{At}
 use Rattle.layout.specs.Lent.{lent, after}
 use Rattle.layout.specs.Records.{volumeBytes}
 use Rattle.layout.specs.Tables.{volumesIn, volumesOk, commitsIn, commitsOk}
-use Rattle.layout.proofs.LentLaws.{lent-yes}
+use Rattle.layout.proofs.LentLaws.{lent-yes, changed as stores}
 use Rattle.layout.proofs.PlaceLaws.{all-bytes}
 use Rattle.rows.specs.Lookups.{nth, atSpot}
 use Rattle.rows.proofs.Rows.{formed-rules, formed-forms, laid-same}
@@ -45,7 +46,7 @@ use Rattle.volume.specs.declared.volume.Volume.{Volume as CodeVolume}
 use Rattle.core.specs.declared.lsn.Lsn.{Lsn}
 use Rattle.volumebytes.specs.Laid.{volumeLaid}
 use Rattle.volumebytes.proofs.RoundLaws.{says-laid}
-use Rattle.volumecalls.proofs.Ends.{made-of, here, found-form, found-vid, changed as stores}
+use Rattle.volumecalls.proofs.Ends.{made-of, here, found-form, found-vid}
 use Rattle.synccalls.specs.Pulls.{syncFound, pullSays, pullForm, Pulls}
 use Rattle.synccalls.specs.declared.Pull.{Pull}
 use Rattle.synccalls.specs.declared.Pull.the-variants as Pull
@@ -62,41 +63,12 @@ module _ (v : Volume) (h : volumeForm v ≡ true) where
   unfolding volumeForm
   sync-form = and-snd (idForm (v .vid) && idForm (v .local) && idForm (v .remote)) (given syncForm (v .sync)) (and-fst _ (given pendingForm (v .pending)) h)
 
-mark-form : (s : Option SyncPoint) → given syncForm s ≡ true → given lsnForm (watermarkOf s) ≡ true
-unfolding syncForm
-mark-form none e = refl
-mark-form (some s) e = and-snd (lsnForm (s .remote)) (given lsnForm (s .watermark)) e
-
-remote-form : (s : Option SyncPoint) → given syncForm s ≡ true → given lsnForm (remoteOf s) ≡ true
-unfolding syncForm
-remote-form none e = refl
-remote-form (some s) e = and-fst (lsnForm (s .remote)) (given lsnForm (s .watermark)) e
-
--- with its sync point moved a volume is in form still
-pub moved-form : (v : Volume) (n : ℕ) → volumeForm v ≡ true → lsnForm n ≡ true → volumeForm (movedVolume v n) ≡ true
-unfolding volumeForm syncForm
-moved-form v n f l =
-    let ids = idForm (v .vid) && idForm (v .local) && idForm (v .remote) in
-    let front = and-fst (ids && given syncForm (v .sync)) (given pendingForm (v .pending)) f in
-    and-both (and-both (and-fst ids (given syncForm (v .sync)) front) (and-both l (mark-form (v .sync) (and-snd ids (given syncForm (v .sync)) front)))) (and-snd (ids && given syncForm (v .sync)) (given pendingForm (v .pending)) f)
-
-commit-lsn : (c : Commit) → commitForm c ≡ true → lsnForm (c .lsn) ≡ true
-unfolding commitForm
-commit-lsn c h = search (and-fst, and-snd)
-
--- a log's latest LSN is in form
-latest-form : (u : List ℕ) (log : Id) → commitsOk u ≡ true → given lsnForm (latestLsn (commitsIn u) log) ≡ true
-latest-form u log ok =
-    options (latest (commitsIn u) log) (λ e. ap (λ (o : Option Commit). given lsnForm (Option·map (λ (c : Commit). c .lsn) o)) e)
-    (λ c e. ap (λ (o : Option Commit). given lsnForm (Option·map (λ (c : Commit). c .lsn) o)) e
-    ∙ commit-lsn c (all-at commitForm (commitsIn u .rows) (formed-forms commits u ok) (first-some (λ c. sameId log (c .log)) (commitsIn u .rows) e .0)))
-
 -- ---- changes of a log since a base that is in form
 
 changes-are : (r : ChangesAnswer) (b : Option ℕ) (u : List ℕ) (log : Id) → given lsnForm b ≡ true → commitsOk u ≡ true
     → changesSays r ≡ changes b (latestLsn (commitsIn u) log) → changesSays r ≡ changed b (latestLsn (commitsIn u) log)
 changes-are r b u log f ok e =
-    e ∙ sym (past-zero b (latestLsn (commitsIn u) log) (changed b (latestLsn (commitsIn u) log)) b refl (lsn-counts b f) (lsn-counts (latestLsn (commitsIn u) log) (latest-form u log ok)) refl)
+    e ∙ sym (past-zero b (latestLsn (commitsIn u) log) (changed b (latestLsn (commitsIn u) log)) b refl (lsn-counts b f) (lsn-counts (latestLsn (commitsIn u) log) (latest-form (commitsIn u) log (formed-forms commits u ok))) refl)
 
 module _ (u : List ℕ) (ok : commitsOk u ≡ true) (v : Volume) (form : volumeForm v ≡ true) (r : ChangesAnswer) (base head : Option ℕ) (e : changesSays r ≡ changes base head) where
   -- of the remote since sync.remote
@@ -141,7 +113,7 @@ pub remote-end : (u : List ℕ) → commitsOk u ≡ true → (v : Volume) (r : C
     → (start end : Lsn) → r ≡ Changes.Range start end → (lsnForm (end .0) ≡ true) × (notOlder (remoteOf (v .sync)) (end .0) ≡ true)
 remote-end u ok v r e start end h =
     let k = up-to (remoteOf (v .sync)) (latestLsn (commitsIn u) (v .remote)) (start .0, end .0) (sym e ∙ ap changesSays h) in
-    (ap (given lsnForm) (sym (k .0)) ∙ latest-form u (v .remote) ok, k .1)
+    (ap (given lsnForm) (sym (k .0)) ∙ latest-form (commitsIn u) (v .remote) (formed-forms commits u ok), k .1)
 
 -- what is left of sync by the changes of the local log
 abbrev local-rest : Table Volume → Volume → ℕ → Answer (Option (ℕ × ℕ)) → Answer (Table Volume)
@@ -214,7 +186,7 @@ module _ (t : List ℕ) (vid : Id) (ok : volumesOk t ≡ true) (o : Spot) (i : �
 
 -- an answer that is the table as it was leaves the bytes
 pub kept : (t : List ℕ) (a : Answer (Table Volume)) → AreBytes t → volumesOk t ≡ true → a ≡ done (volumesIn t) → (0 ≡ code a) × (t ≡ after volumeBytes (λ w. w) t a)
-kept t a bs ok e = stores t a (volumesIn t) t e (sym (laid-same volumes t bs ok))
+kept t a bs ok e = stores volumeBytes t a (volumesIn t) t e (sym (laid-same volumes t bs ok))
 
 -- what the code's volume says once its sync point was moved
 pub moved-says : (x y : CodeVolume) (n : Lsn) (w : MaybeLsn) → maybeLsnSays w ≡ watermarkOf (syncSays (x .sync))

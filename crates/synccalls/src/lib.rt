@@ -8,6 +8,9 @@ use core::id::LogId;
 use core::id::VolumeId;
 use core::lsn::Lsn;
 use table::Spot;
+use viewcalls::is_below;
+use viewcalls::remote_of;
+use viewcalls::watermark_of;
 use volume::volume::ChangesAnswer;
 use volume::volume::MaybeLsn;
 use volume::volume::PendingCommit;
@@ -28,7 +31,7 @@ ghost use Rattle.rules.specs.Lists.{isNone};
 ghost use Rattle.rules.specs.Push.{isBefore, prepare as prepareRule};
 ghost use Rattle.rules.specs.Forms.{lsnForm, volumeForm};
 ghost use Rattle.rules.specs.Tables.{latestLsn};
-ghost use Rattle.rules.specs.Snapshots.{watermarkOf, remoteOf, below};
+ghost use Rattle.rules.specs.Snapshots.{remoteOf};
 ghost use Rattle.rules.specs.Sync.{notOlder, syncBy, sync as syncRule};
 ghost use Rattle.volume.specs.Volumes.{maybeLsnSays, syncSays, volumeSays};
 ghost use Rattle.layout.specs.Records.{volumeBytes};
@@ -44,29 +47,6 @@ pub enum Pull {
 }
 
 // ---- what a volume's changes go by
-
-// The watermark, which may be missing.
-fn watermark_of(sync: Sync) -> MaybeLsn
-    ensures { λ r. ⌜ maybeLsnSays r ≡ watermarkOf (syncSays sync) ⌝ }
-{
-    match sync {
-        Sync::Missing => MaybeLsn::Missing,
-        Sync::At(point) => point.watermark,
-    }
-}
-
-// The remote LSN that was synced, which is missing with the sync point.
-fn remote_of(sync: Sync) -> MaybeLsn
-    ensures { λ r. ⌜ maybeLsnSays r ≡ remoteOf (syncSays sync) ⌝ }
-{
-    match sync {
-        Sync::Missing => MaybeLsn::Missing,
-        Sync::At(point) => {
-            let remote = point.remote;
-            MaybeLsn::At(remote)
-        }
-    }
-}
 
 // The log's latest LSN, which is missing where it has no commit.
 fn latest_lsn(commits: &[u8], log: LogId) -> MaybeLsn
@@ -165,16 +145,6 @@ fn none_pending(v: Volume) -> bool
             local: _,
             commit: _,
         } => false,
-    }
-}
-
-// Whether a watermark is missing or below an LSN.
-fn is_below(watermark: MaybeLsn, lsn: u64) -> bool
-    ensures { λ r. ⌜ r ≡ below (maybeLsnSays watermark) lsn ⌝ }
-{
-    match watermark {
-        MaybeLsn::Missing => true,
-        MaybeLsn::At(w) => w.0 < lsn,
     }
 }
 

@@ -4,7 +4,7 @@ use commitcalls::FoundAnswer;
 use commitcalls::MaybeCountAnswer;
 use layout::VOLUME;
 use tagcalls::TaggedAnswer;
-use volumebytes::volume_write;
+use volumebytes::put_out;
 use volumecalls::VolumeAnswer;
 ghost use mathlib.Core.Path.{_≡_};
 ghost use Rattle.commitcalls.specs.Says.{foundSays, maybeCountSays};
@@ -26,7 +26,7 @@ pub fn put_volume(a: VolumeAnswer, out: &mut [u8]) -> Reply
         return Reply { code, found: 0 };
     }
     let volume = a.volume;
-    volume_write(out, 0, volume);
+    put_out(out, volume);
     Reply { code: 0, found: 1 }
 }
 

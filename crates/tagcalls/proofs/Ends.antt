@@ -8,23 +8,21 @@ use mathlib.Core.Bool.{Bool, true, false, _&&_}
 use native.Mathlib.Omega.{arith}
 use lib.Dec.{leb}
 use lib.ListN.{length}
-use borrow.Author.Tests.{le-leb, lt-leb, eq-eqb}
-use Rattle.octets.specs.Bytes.{AreBytes}
+use borrow.Author.Tests.{le-leb, lt-leb}
 use Rattle.core.specs.Answers.{Answer, refused, done, ask, _>>_}
 use Rattle.core.specs.Orders.{bytes}
 use Rattle.rules.specs.Lists.{isSome}
 use Rattle.rules.specs.Records.{Id, Name, Tag, tagKey}
-use Rattle.rules.specs.Forms.{nameLength, bytesForm, idForm}
+use Rattle.rules.specs.Forms.{nameLength}
 use Rattle.rules.specs.Tables.{Table, fits, store, remove, sameId, getTag, tagsFormed}
 use Rattle.rules.specs.Reads.{tagged, tagRead, tagExists, tagDelete, tagReplace}
 use Rattle.rules.proofs.TableLaws.{and-both}
 use Rattle.table.specs.declared.Spot.{Spot}
 use Rattle.table.specs.declared.Spot.the-variants.{At, Gap}
-use Rattle.layout.specs.Lent.{lent, after}
-use Rattle.layout.specs.Records.{tagOf, tagBytes}
-use Rattle.layout.specs.Tables.{tagsIn, tagsOk, laidOver}
-use Rattle.layout.proofs.LentLaws.{lent-yes}
-use Rattle.layout.proofs.PlaceLaws.{all-bytes}
+use Rattle.layout.specs.Lent.{lent}
+use Rattle.layout.specs.Records.{tagOf}
+use Rattle.layout.specs.Tables.{tagsIn, tagsOk}
+use Rattle.layout.proofs.LentLaws.{past-20}
 use Rattle.rows.specs.Lookups.{nth, atSpot}
 use Rattle.rows.proofs.Rows.{formed-rules}
 use Rattle.rows.proofs.Tables.{tags}
@@ -44,11 +42,6 @@ long-name name h = sym (ap₂ _&&_ (le-leb 1 (length name) (omega arith)) (lt-le
 pub name-fits : (name : Name) → (length name ≡ 0 → ⊥) → length name ≤ 32 → true ≡ nameLength name
 unfolding nameLength
 name-fits name n h = sym (and-both (le-leb 1 (length name) (omega arith)) (le-leb (length name) 32 h))
-
--- 16 bytes are an identifier
-pub id-good : (vid : Id) → length vid ≡ 16 → AreBytes vid → idForm vid ≡ true
-unfolding bytesForm
-id-good vid l b = and-both (eq-eqb (length vid) 16 l) (all-bytes vid b)
 
 -- ---- what was found
 
@@ -76,14 +69,14 @@ module _ {A : Type 0} (t : List ℕ) (name : Name) (rest : Answer A) where
   asking = ask (tagsFormed (tagsIn t)) 20 >> (ask (nameLength name) 1 >> rest)
 
   module _ (ok : tagsOk t ≡ true) where
-    past-20 : lent (tagsOk t) asking ≡ (ask (nameLength name) 1 >> rest)
-    past-20 = lent-yes (tagsOk t) asking ok ∙ ap (λ (b : Bool). ask b 20 >> (ask (nameLength name) 1 >> rest)) (formed-rules tags t ok)
+    by-name : lent (tagsOk t) asking ≡ (ask (nameLength name) 1 >> rest)
+    by-name = past-20 (tagsOk t) (tagsFormed (tagsIn t)) (ask (nameLength name) 1 >> rest) ok (formed-rules tags t ok)
 
     no-name : nameLength name ≡ false → lent (tagsOk t) asking ≡ refused 1
-    no-name n = past-20 ∙ ap (λ (b : Bool). ask b 1 >> rest) n
+    no-name n = by-name ∙ ap (λ (b : Bool). ask b 1 >> rest) n
 
     past-1 : nameLength name ≡ true → lent (tagsOk t) asking ≡ rest
-    past-1 n = past-20 ∙ ap (λ (b : Bool). ask b 1 >> rest) n
+    past-1 n = by-name ∙ ap (λ (b : Bool). ask b 1 >> rest) n
 
 module _ (t : List ℕ) (name : Name) (ok : tagsOk t ≡ true) where
   -- 1 of each call
@@ -136,16 +129,3 @@ module _ (t : List ℕ) (name : Name) (vid : Id) (ok : tagsOk t ≡ true) where
     pub replace-is : fits stored ≡ true → lent (tagsOk t) (tagReplace (tagsIn t) name vid) ≡ done (tagged (tagsIn t) name, stored)
     unfolding tagReplace
     replace-is f = past-1 t name storing ok n ∙ ap (λ (b : Bool). ask b 19 >> done (tagged (tagsIn t) name, stored)) f
-
--- ---- what a call that may change the table answers and leaves, by how the rule's answer is told and the table that it holds
-
-module _ {A B : Type 0} (tell : Answer A → B) (table : A → Table Tag) (t : List ℕ) (a : Answer A) where
-  -- a refusal leaves the bytes as found
-  pub unchanged : (n : ℕ) (x : B) → a ≡ refused n → x ≡ tell (refused n) → (x ≡ tell a) × (t ≡ after tagBytes table t a)
-  unfolding after
-  unchanged n x e told = (told ∙ ap tell (sym e), ap (after tagBytes table t) (sym e))
-
-  -- else the answer's table is laid over them
-  pub changed : (w : A) (x : B) (u : List ℕ) → a ≡ done w → x ≡ tell (done w) → u ≡ laidOver tagBytes (table w) t → (x ≡ tell a) × (u ≡ after tagBytes table t a)
-  unfolding after
-  changed w x u e told h = (told ∙ ap tell (sym e), h ∙ ap (after tagBytes table t) (sym e))

@@ -70,7 +70,7 @@ fn two_ranges(range: LogRange, next: LogRange, count: u32) -> Snapshot
 // ---- a volume's sync point
 
 // The watermark, which may be missing.
-fn watermark_of(sync: Sync) -> MaybeLsn
+pub fn watermark_of(sync: Sync) -> MaybeLsn
     ensures { λ r. ⌜ maybeLsnSays r ≡ watermarkOf (syncSays sync) ⌝ }
 {
     match sync {
@@ -80,7 +80,7 @@ fn watermark_of(sync: Sync) -> MaybeLsn
 }
 
 // The remote LSN that was synced, which is missing with the sync point.
-fn remote_of(sync: Sync) -> MaybeLsn
+pub fn remote_of(sync: Sync) -> MaybeLsn
     ensures { λ r. ⌜ maybeLsnSays r ≡ remoteOf (syncSays sync) ⌝ }
 {
     match sync {
@@ -93,7 +93,7 @@ fn remote_of(sync: Sync) -> MaybeLsn
 }
 
 // Whether a watermark is missing or below an LSN.
-fn is_below(watermark: MaybeLsn, lsn: u64) -> bool
+pub fn is_below(watermark: MaybeLsn, lsn: u64) -> bool
     ensures { λ r. ⌜ r ≡ below (maybeLsnSays watermark) lsn ⌝ }
 {
     match watermark {

@@ -68,3 +68,11 @@ pub fn volume_write(s: &mut [u8], at: usize, v: Volume)
     sync::sync_write(s, at + 50, sync);
     pending::pending_write(s, at + 68, pending, hash);
 }
+
+// The bytes of a volume over as many lent ones.
+pub fn put_out(out: &mut [u8], v: Volume)
+    requires { ⌜ length (now out) ≡ 117 ⌝ }
+    ensures { λ _. ⌜ now (out .exit) ≡ volumeBytes .spell (volumeSays v) ⌝ }
+{
+    volume_write(out, 0, v);
+}

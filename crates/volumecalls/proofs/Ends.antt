@@ -4,25 +4,25 @@ use Prim.Native.Nat.{ℕ}
 use mathlib.Core.Path.{_≡_, refl, sym, ap, _∙_}
 use mathlib.Core.List.{List, _∷_}
 use mathlib.Core.Option.{Option, none, some, Option·map}
-use mathlib.Core.Bool.{Bool, true, false, _&&_}
-use Rattle.core.specs.Answers.{Answer, refused, done, code, ask, need, _>>_, _>>=_}
+use mathlib.Core.Bool.{true}
+use Rattle.core.specs.Answers.{Answer, done, need, _>>=_}
 use Rattle.core.specs.Orders.{bytes}
 use Rattle.core.proofs.OrderLaws.{bytes-lawful}
-use Rattle.rules.specs.Lists.{isSome, given}
-use Rattle.rules.specs.Records.{Id, Volume, Pending, volumeKey}
+use Rattle.rules.specs.Lists.{isSome}
+use Rattle.rules.specs.Records.{Id, Volume, volumeKey}
 use Rattle.rules.specs.Forms as Forms
 use Rattle.rules.specs.Tables.{Table, store, remove, sameId, getVolume, volumesFormed}
 use Rattle.rules.specs.Reads.{volumeRead, volumeExists, volumeDelete}
 use Rattle.rules.specs.Push.{withPending, dropPending}
-use Rattle.rules.proofs.TableLaws.{option-same, missing, get-some, all-at, and-fst}
+use Rattle.rules.proofs.TableLaws.{option-same, missing, get-some, all-at}
+use Rattle.rules.proofs.Kept.{pending-form}
 use Rattle.table.specs.Records.{spot}
 use Rattle.table.specs.Table.{recs}
 use Rattle.table.specs.declared.Spot.{Spot}
 use Rattle.table.specs.declared.Spot.the-variants.{At, Gap}
-use Rattle.layout.specs.Lent.{lent, after}
-use Rattle.layout.specs.Records.{volumeBytes}
-use Rattle.layout.specs.Tables.{volumesIn, volumesOk, laidOver}
-use Rattle.layout.proofs.LentLaws.{lent-yes}
+use Rattle.layout.specs.Lent.{lent}
+use Rattle.layout.specs.Tables.{volumesIn, volumesOk}
+use Rattle.layout.proofs.LentLaws.{past-20}
 use Rattle.rows.specs.Lookups.{nth, atSpot}
 use Rattle.rows.proofs.Rows.{formed-rules, formed-forms}
 use Rattle.rows.proofs.Tables.{volumes}
@@ -52,22 +52,22 @@ module _ (t : List ℕ) (vid : Id) (ok : volumesOk t ≡ true) where
 
   pub read-is : lent (volumesOk t) (volumeRead (volumesIn t) vid) ≡ need (getVolume (volumesIn t) vid) 4
   unfolding volumeRead
-  read-is = lent-yes (volumesOk t) (volumeRead (volumesIn t) vid) ok ∙ ap (λ (b : Bool). ask b 20 >> need (getVolume (volumesIn t) vid) 4) formed
+  read-is = past-20 (volumesOk t) (volumesFormed (volumesIn t)) (need (getVolume (volumesIn t) vid) 4) ok formed
 
   pub exists-is : lent (volumesOk t) (volumeExists (volumesIn t) vid) ≡ done (isSome (getVolume (volumesIn t) vid))
   unfolding volumeExists
-  exists-is = lent-yes (volumesOk t) (volumeExists (volumesIn t) vid) ok ∙ ap (λ (b : Bool). ask b 20 >> done (isSome (getVolume (volumesIn t) vid))) formed
+  exists-is = past-20 (volumesOk t) (volumesFormed (volumesIn t)) (done (isSome (getVolume (volumesIn t) vid))) ok formed
 
   pub delete-is : lent (volumesOk t) (volumeDelete (volumesIn t) vid) ≡ done (remove (λ v. sameId vid (v .vid)) (volumesIn t))
   unfolding volumeDelete
-  delete-is = lent-yes (volumesOk t) (volumeDelete (volumesIn t) vid) ok ∙ ap (λ (b : Bool). ask b 20 >> done (remove (λ v. sameId vid (v .vid)) (volumesIn t))) formed
+  delete-is = past-20 (volumesOk t) (volumesFormed (volumesIn t)) (done (remove (λ v. sameId vid (v .vid)) (volumesIn t))) ok formed
 
   dropped : Option Volume → Answer (Table Volume)
   dropped o = need o 4 >>= (λ v. done (store volumeKey bytes (withPending v none) (volumesIn t)))
 
   pub drop-is : lent (volumesOk t) (dropPending (volumesIn t) vid) ≡ (need (getVolume (volumesIn t) vid) 4 >>= (λ v. done (store volumeKey bytes (withPending v none) (volumesIn t))))
   unfolding dropPending dropped
-  drop-is = lent-yes (volumesOk t) (dropPending (volumesIn t) vid) ok ∙ ap (λ (b : Bool). ask b 20 >> dropped (getVolume (volumesIn t) vid)) formed
+  drop-is = past-20 (volumesOk t) (volumesFormed (volumesIn t)) (dropped (getVolume (volumesIn t) vid)) ok formed
 
   -- a volume that was found is in form, and has the identifier
   pub found-form : (v : Volume) → getVolume (volumesIn t) vid ≡ some v → Forms.volumeForm v ≡ true
@@ -75,26 +75,6 @@ module _ (t : List ℕ) (vid : Id) (ok : volumesOk t ≡ true) where
 
   pub found-vid : (v : Volume) → getVolume (volumesIn t) vid ≡ some v → vid ≡ v .vid
   found-vid v e = get-some volumeKey bytes bytes-lawful vid (volumesIn t .rows) e .1
-
--- without its pending commit a volume is in form still
-pub dropped-form : (v : Volume) → Forms.volumeForm v ≡ true → Forms.volumeForm (withPending v none) ≡ true
-unfolding Forms.volumeForm
-dropped-form v h =
-    let abcd = Forms.idForm (v .vid) && Forms.idForm (v .local) && Forms.idForm (v .remote) && given Forms.syncForm (v .sync) in
-    ap (λ (b : Bool). b && true) (and-fst abcd (given Forms.pendingForm (v .pending)) h)
-
--- ---- what a call that may change the table leaves
-
-module _ (t : List ℕ) (a : Answer (Table Volume)) where
-  -- a refusal leaves the bytes as found
-  pub unchanged : (n : ℕ) → a ≡ refused n → (n ≡ code a) × (t ≡ after volumeBytes (λ w. w) t a)
-  unfolding after
-  unchanged n e = (ap code (sym e), ap (after volumeBytes (λ w. w) t) (sym e))
-
-  -- else the answer's table is laid over them
-  pub changed : (w : Table Volume) (u : List ℕ) → a ≡ done w → u ≡ laidOver volumeBytes w t → (0 ≡ code a) × (u ≡ after volumeBytes (λ w. w) t a)
-  unfolding after
-  changed w u e h = (ap code (sym e), h ∙ ap (after volumeBytes (λ w. w) t) (sym e))
 
 -- ---- drop: the volume x by value that was read at place i, and y, x without its pending commit
 
@@ -122,7 +102,7 @@ module _ (t : List ℕ) (vid : Id) (ok : volumesOk t ≡ true) (o : Spot) (i : �
 
   pub drop-ready : ((volumesOk t ≡ true) × (Forms.volumeForm (volumeSays y) ≡ true)) × (spot 17 (0 ∷ y .vid) (recs 117 t) ≡ At i)
   drop-ready = (
-    (ok, ap Forms.volumeForm (drops .tells) ∙ dropped-form (drops .old) (found-form t vid ok (drops .old) (drops .found))),
+    (ok, ap Forms.volumeForm (drops .tells) ∙ pending-form (drops .old) none (found-form t vid ok (drops .old) (drops .found)) refl),
     ap (λ (z : List ℕ). spot 17 (0 ∷ z) (recs 117 t)) (sym (drops .same)) ∙ sym place ∙ hit,
   )
 

@@ -5,18 +5,19 @@ use layout::VOLUME_KEY;
 use octets::store_id;
 use table::Spot;
 use volume::volume::Volume;
+use volumebytes::put_out;
 use volumebytes::volume_form;
 use volumebytes::volume_read;
-use volumebytes::volume_write;
 ghost use mathlib.Core.Path.{_≡_};
 ghost use mathlib.Core.Bool.{true};
 ghost use mathlib.Core.List.{_∷_};
 ghost use mathlib.Core.Option.{some, Option·map};
 ghost use Prim.Native.Nat.{_<_};
 ghost use Rattle.core.specs.Orders.{bytes};
+ghost use Rattle.rules.specs.Lists.{isNone};
 ghost use Rattle.rules.specs.Records.{volumeKey};
 ghost use Rattle.rules.specs.Forms.{volumeForm};
-ghost use Rattle.rules.specs.Tables.{store, remove, fits, sameId};
+ghost use Rattle.rules.specs.Tables.{store, remove, fits, sameId, getVolume};
 ghost use Rattle.table.specs.Records.{spot};
 ghost use Rattle.table.specs.Table.{countOf, recs};
 ghost use Rattle.table.specs.declared.Spot.the-variants.{At};
@@ -59,7 +60,7 @@ fn volume_row(v: Volume) -> [u8; 117]
     ensures { λ r. ⌜ r ≡ volumeBytes .spell (volumeSays v) ⌝ }
 {
     let mut row = [0u8; 117];
-    volume_write(&mut row, 0, v);
+    put_out(&mut row, v);
     row
 }
 
@@ -70,6 +71,17 @@ pub fn find_volume(t: &[u8], vid: VolumeId) -> Spot
 {
     let key = volume_key(vid);
     table::find(t, VOLUME, VOLUME_KEY, &key)
+}
+
+// Whether no volume of an identifier is stored.
+pub fn vid_free(t: &[u8], vid: VolumeId) -> bool
+    requires { ⌜ volumesOk (now t) ≡ true ⌝ }
+    ensures { λ r. ⌜ r ≡ isNone (getVolume (volumesIn (now (t .entry))) vid) ⌝ }
+{
+    match find_volume(t, vid) {
+        Spot::At(_) => false,
+        Spot::Gap(_) => true,
+    }
 }
 
 // The volume at a place.

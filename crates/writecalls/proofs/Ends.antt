@@ -20,7 +20,8 @@ use Rattle.layout.specs.Tables.{commitsOk, checkpointsOk, indexOk, laidOver}
 use Rattle.layout.specs.Lent.{lent, after}
 use Rattle.writecalls.specs.declared.Plan.{Plan}
 use Rattle.writecalls.specs.Written.{IsCommit, commitIn, logsIn, logsOk, freshIn, planned, writeIn}
-use Rattle.writecalls.proofs.Plans.{bad-commits, bad-checkpoints, bad-index, wrong-size, zero-lsn, not-formed, is-commit, room-decides, no-room}
+use Rattle.writecalls.proofs.Formed.{each-ok}
+use Rattle.writecalls.proofs.Plans.{bad, wrong-size, zero-lsn, not-formed, is-commit, room-decides, no-room}
 
 module _ (cs ks es b : List ℕ) where
   -- all checks have passed
@@ -35,27 +36,23 @@ module _ (cs ks es b : List ℕ) where
 
   passed : code answer ≡ 0 → Passed
   passed h =
-      cases (commitsOk cs) (λ c1.
-      cases (checkpointsOk ks) (λ k1.
-      cases (indexOk es) (λ e1.
+      cases (logsOk cs ks es) (λ o.
       cases (eqb (length b) 722) (λ q.
       let n = eqb-true (length b) 722 q in
       cases (commitLsns (commitIn (part 0 722 b))) (λ l.
       cases (inForm commitBytes commitForm (part 0 722 b)) (λ f.
       cases (logsFit (write (logsIn cs ks es) (commitIn b))) (λ r.
       record {
-        forms = (c1, k1, e1);
-        commit = is-commit cs ks es b c1 k1 e1 n l f;
+        forms = each-ok cs ks es o;
+        commit = is-commit cs ks es b o n l f;
         room = r;
-        answers = room-decides cs ks es b c1 k1 e1 n l f ∙ ap (λ (x : Bool). ask x 19 >> done (write (logsIn cs ks es) (commitIn b))) r;
+        answers = room-decides cs ks es b o n l f ∙ ap (λ (x : Bool). ask x 19 >> done (write (logsIn cs ks es) (commitIn b))) r;
       })
-      (λ r. not-0 19 (no-room cs ks es b c1 k1 e1 n l f r) (omega arith)))
-      (λ f. not-0 3 (not-formed cs ks es b c1 k1 e1 n l f) (omega arith)))
-      (λ l. not-0 1 (zero-lsn cs ks es b c1 k1 e1 n l) (omega arith)))
-      (λ q. not-0 3 (wrong-size cs ks es b c1 k1 e1 (λ n. clash (eq-eqb (length b) 722 n) q)) (omega arith)))
-      (λ e. not-0 20 (bad-index cs ks es b c1 k1 e) (omega arith)))
-      (λ e. not-0 20 (bad-checkpoints cs ks es b c1 e) (omega arith)))
-      (λ e. not-0 20 (bad-commits cs ks es b e) (omega arith))
+      (λ r. not-0 19 (no-room cs ks es b o n l f r) (omega arith)))
+      (λ f. not-0 3 (not-formed cs ks es b o n l f) (omega arith)))
+      (λ l. not-0 1 (zero-lsn cs ks es b o n l) (omega arith)))
+      (λ q. not-0 3 (wrong-size cs ks es b o (λ n. clash (eq-eqb (length b) 722 n) q)) (omega arith)))
+      (λ e. not-0 20 (bad cs ks es b e) (omega arith))
     where
       not-0 : (k : ℕ) → k ≡ code answer → (k ≡ 0 → ⊥) → Passed
       not-0 k e z = absurd (z (e ∙ h))

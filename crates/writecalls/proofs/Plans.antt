@@ -2,132 +2,94 @@
 use Prim.Native.Nat.{ℕ}
 use mathlib.Core.Path.{_≡_, refl, sym, ap, _∙_}
 use mathlib.Core.List.{List}
-use mathlib.Core.Option.{Option, none, some}
-use mathlib.Core.Bool.{Bool, true, false, _&&_}
-use lib.Dec.{eqb, leb}
+use mathlib.Core.Bool.{Bool, true, false}
+use lib.Dec.{eqb}
 use lib.ListN.{length}
 use borrow.Author.Tests.{eq-eqb, ne-eqb}
 use Rattle.octets.specs.Bytes.{part}
 use Rattle.octets.proofs.Places.{part-all}
-use Rattle.core.specs.Answers.{Answer, refused, done, code, ask, _>>=_, _>>_}
-use Rattle.rules.specs.Lists.{given}
-use Rattle.rules.specs.Records.{Segment, Commit}
-use Rattle.rules.specs.Forms.{segmentForm, listsForm, commitForm}
+use Rattle.core.specs.Answers.{Answer, refused, done, code, ask, _>>_}
+use Rattle.rules.specs.Forms.{commitForm}
 use Rattle.rules.specs.Arguments.{commitLsns, commitLists}
 use Rattle.rules.specs.Write.{Logs, write, logsFormed, logsFit, writeCommit}
-use Rattle.rules.proofs.TableLaws.{and-fst, and-snd, and-both}
+use Rattle.rules.proofs.Write.{form-lists}
 use Rattle.layout.specs.Codecs.{inForm}
 use Rattle.layout.specs.Records.{commitBytes}
-use Rattle.layout.specs.Tables.{commitsOk, checkpointsOk, indexOk}
 use Rattle.layout.specs.Lent.{lent}
 use Rattle.layout.proofs.LentLaws.{lent-no, lent-yes}
-use Rattle.rows.proofs.Rows.{formed-rules}
-use Rattle.rows.proofs.Tables.{commits, checkpoints, index}
 use Rattle.writecalls.specs.declared.Plan.{Plan}
 use Rattle.writecalls.specs.Written.{IsCommit, commitIn, logsIn, logsOk, freshIn, roomed, planned, writeIn}
+use Rattle.writecalls.proofs.Formed.{logs-formed}
 use Rattle.writecalls.proofs.Rows.{is-form}
-
--- a commit in form has its lists in form
-form-lists : (c : Commit) → commitForm c ≡ true → commitLists c ≡ true
-unfolding commitForm commitLists segmentForm
-form-lists c e =
-    let n : leb (length (c .checkpoints)) 8 ≡ true = search (and-fst, and-snd) in
-    and-both (go (c .segment) (search (and-fst, and-snd))) n
-  where
-    go : (o : Option Segment) → given segmentForm o ≡ true → given listsForm o ≡ true
-    go none h = refl
-    go (some s) h = search (and-fst, and-snd)
 
 module _ (cs ks es b : List ℕ) where
   abbrev answer : Answer Logs
   answer = lent (logsOk cs ks es) (writeIn (logsIn cs ks es) b)
 
-  bad : logsOk cs ks es ≡ false → 20 ≡ code answer
+  -- ---- 20
+  pub bad : logsOk cs ks es ≡ false → 20 ≡ code answer
   bad e = sym (ap code (lent-no (logsOk cs ks es) (writeIn (logsIn cs ks es) b) e))
 
-  -- ---- 20
-  pub bad-commits : commitsOk cs ≡ false → 20 ≡ code answer
-  unfolding logsOk
-  bad-commits e = bad (ap (λ (x : Bool). x && checkpointsOk ks && indexOk es) e)
+  module _ (oks : logsOk cs ks es ≡ true) where
+    abbrev chain : Bool → Bool → Bool → Answer Logs
+    chain x y z = ask x 3 >> (ask y 1 >> (ask z 3 >> writeCommit (logsIn cs ks es) (commitIn b)))
 
-  module _ (c1 : commitsOk cs ≡ true) where
-    pub bad-checkpoints : checkpointsOk ks ≡ false → 20 ≡ code answer
-    unfolding logsOk
-    bad-checkpoints e = bad (ap (λ (x : Bool). x && checkpointsOk ks && indexOk es) c1 ∙ ap (λ (x : Bool). x && indexOk es) e)
+    chain-is : answer ≡ chain (eqb (length b) 722) (commitLsns (commitIn b)) (inForm commitBytes commitForm b)
+    unfolding writeIn
+    chain-is = lent-yes (logsOk cs ks es) (writeIn (logsIn cs ks es) b) oks
 
-    module _ (k1 : checkpointsOk ks ≡ true) where
-      pub bad-index : indexOk es ≡ false → 20 ≡ code answer
-      unfolding logsOk
-      bad-index e = bad (ap (λ (x : Bool). x && checkpointsOk ks && indexOk es) c1 ∙ ap (λ (x : Bool). x && indexOk es) k1 ∙ e)
+    -- ---- 3, of another number of bytes
+    pub wrong-size : (length b ≡ 722 → ⊥) → 3 ≡ code answer
+    wrong-size h = sym (ap code (chain-is ∙ ap (λ (x : Bool). chain x (commitLsns (commitIn b)) (inForm commitBytes commitForm b)) (ne-eqb (length b) 722 h)))
 
-      module _ (e1 : indexOk es ≡ true) where
-        oks : logsOk cs ks es ≡ true
-        unfolding logsOk
-        oks = and-both (and-both c1 k1) e1
+    module _ (n : length b ≡ 722) where
+      all-of : part 0 722 b ≡ b
+      all-of = ap (λ (m : ℕ). part 0 m b) (sym n) ∙ part-all b
 
-        formed : logsFormed (logsIn cs ks es) ≡ true
-        unfolding logsFormed
-        formed = and-both (and-both (formed-rules commits cs c1) (formed-rules checkpoints ks k1)) (formed-rules index es e1)
+      sized-is : answer ≡ chain true (commitLsns (commitIn b)) (inForm commitBytes commitForm b)
+      sized-is = chain-is ∙ ap (λ (x : Bool). chain x (commitLsns (commitIn b)) (inForm commitBytes commitForm b)) (eq-eqb (length b) 722 n)
 
-        abbrev chain : Bool → Bool → Bool → Answer Logs
-        chain x y z = ask x 3 >> (ask y 1 >> (ask z 3 >> writeCommit (logsIn cs ks es) (commitIn b)))
+      lsns-are : (r : Bool) → commitLsns (commitIn (part 0 722 b)) ≡ r → answer ≡ chain true r (inForm commitBytes commitForm b)
+      lsns-are r e = sized-is ∙ ap (λ (y : Bool). chain true y (inForm commitBytes commitForm b)) (ap (λ (x : List ℕ). commitLsns (commitIn x)) (sym all-of) ∙ e)
 
-        chain-is : answer ≡ chain (eqb (length b) 722) (commitLsns (commitIn b)) (inForm commitBytes commitForm b)
-        unfolding writeIn
-        chain-is = lent-yes (logsOk cs ks es) (writeIn (logsIn cs ks es) b) oks
+      -- ---- 1
+      pub zero-lsn : commitLsns (commitIn (part 0 722 b)) ≡ false → 1 ≡ code answer
+      zero-lsn e = sym (ap code (lsns-are false e))
 
-        -- ---- 3, of another number of bytes
-        pub wrong-size : (length b ≡ 722 → ⊥) → 3 ≡ code answer
-        wrong-size h = sym (ap code (chain-is ∙ ap (λ (x : Bool). chain x (commitLsns (commitIn b)) (inForm commitBytes commitForm b)) (ne-eqb (length b) 722 h)))
+      module _ (l : commitLsns (commitIn (part 0 722 b)) ≡ true) where
+        -- ---- 3, not in form
+        pub not-formed : inForm commitBytes commitForm (part 0 722 b) ≡ false → 3 ≡ code answer
+        not-formed e = sym (ap code (lsns-are true l ∙ ap (chain true true) (ap (inForm commitBytes commitForm) (sym all-of) ∙ e)))
 
-        module _ (n : length b ≡ 722) where
-          all-of : part 0 722 b ≡ b
-          all-of = ap (λ (m : ℕ). part 0 m b) (sym n) ∙ part-all b
+        module _ (f : inForm commitBytes commitForm (part 0 722 b) ≡ true) where
+          pub is-commit : IsCommit b
+          is-commit = (n, ap (inForm commitBytes commitForm) (sym all-of) ∙ f)
 
-          sized-is : answer ≡ chain true (commitLsns (commitIn b)) (inForm commitBytes commitForm b)
-          sized-is = chain-is ∙ ap (λ (x : Bool). chain x (commitLsns (commitIn b)) (inForm commitBytes commitForm b)) (eq-eqb (length b) 722 n)
+          abbrev after-20 : Bool → Bool → Bool → Answer Logs
+          after-20 x y z = ask x 20 >> (ask y 1 >> (ask z 3 >> (ask (logsFit (write (logsIn cs ks es) (commitIn b))) 19 >> done (write (logsIn cs ks es) (commitIn b)))))
 
-          lsns-are : (r : Bool) → commitLsns (commitIn (part 0 722 b)) ≡ r → answer ≡ chain true r (inForm commitBytes commitForm b)
-          lsns-are r e = sized-is ∙ ap (λ (y : Bool). chain true y (inForm commitBytes commitForm b)) (ap (λ (x : List ℕ). commitLsns (commitIn x)) (sym all-of) ∙ e)
+          rule-is : writeCommit (logsIn cs ks es) (commitIn b) ≡ after-20 (logsFormed (logsIn cs ks es)) (commitLsns (commitIn b)) (commitLists (commitIn b))
+          unfolding writeCommit
+          rule-is = refl
 
-          -- ---- 1
-          pub zero-lsn : commitLsns (commitIn (part 0 722 b)) ≡ false → 1 ≡ code answer
-          zero-lsn e = sym (ap code (lsns-are false e))
+          -- what is left is room
+          pub room-decides : answer ≡ (ask (logsFit (write (logsIn cs ks es) (commitIn b))) 19 >> done (write (logsIn cs ks es) (commitIn b)))
+          room-decides =
+              lsns-are true l ∙ ap (chain true true) (is-commit .1) ∙ rule-is
+              ∙ ap (λ (x : Bool). after-20 x (commitLsns (commitIn b)) (commitLists (commitIn b))) (logs-formed cs ks es oks)
+              ∙ ap (λ (y : Bool). after-20 true y (commitLists (commitIn b))) (ap (λ (x : List ℕ). commitLsns (commitIn x)) (sym all-of) ∙ l)
+              ∙ ap (after-20 true true) (form-lists (commitIn b) (is-form b is-commit))
 
-          module _ (l : commitLsns (commitIn (part 0 722 b)) ≡ true) where
-            -- ---- 3, not in form
-            pub not-formed : inForm commitBytes commitForm (part 0 722 b) ≡ false → 3 ≡ code answer
-            not-formed e = sym (ap code (lsns-are true l ∙ ap (chain true true) (ap (inForm commitBytes commitForm) (sym all-of) ∙ e)))
+          -- ---- 19
+          abbrev by-room : Bool → Answer Logs
+          by-room r = ask r 19 >> done (write (logsIn cs ks es) (commitIn b))
 
-            module _ (f : inForm commitBytes commitForm (part 0 722 b) ≡ true) where
-              pub is-commit : IsCommit b
-              is-commit = (n, ap (inForm commitBytes commitForm) (sym all-of) ∙ f)
+          pub no-room : logsFit (write (logsIn cs ks es) (commitIn b)) ≡ false → 19 ≡ code answer
+          no-room e = sym (ap code (room-decides ∙ ap by-room e))
 
-              abbrev after-20 : Bool → Bool → Bool → Answer Logs
-              after-20 x y z = ask x 20 >> (ask y 1 >> (ask z 3 >> (ask (logsFit (write (logsIn cs ks es) (commitIn b))) 19 >> done (write (logsIn cs ks es) (commitIn b)))))
-
-              rule-is : writeCommit (logsIn cs ks es) (commitIn b) ≡ after-20 (logsFormed (logsIn cs ks es)) (commitLsns (commitIn b)) (commitLists (commitIn b))
-              unfolding writeCommit
-              rule-is = refl
-
-              -- what is left is room
-              pub room-decides : answer ≡ (ask (logsFit (write (logsIn cs ks es) (commitIn b))) 19 >> done (write (logsIn cs ks es) (commitIn b)))
-              room-decides =
-                  lsns-are true l ∙ ap (chain true true) (is-commit .1) ∙ rule-is
-                  ∙ ap (λ (x : Bool). after-20 x (commitLsns (commitIn b)) (commitLists (commitIn b))) formed
-                  ∙ ap (λ (y : Bool). after-20 true y (commitLists (commitIn b))) (ap (λ (x : List ℕ). commitLsns (commitIn x)) (sym all-of) ∙ l)
-                  ∙ ap (after-20 true true) (form-lists (commitIn b) (is-form b is-commit))
-
-              -- ---- 19
-              abbrev by-room : Bool → Answer Logs
-              by-room r = ask r 19 >> done (write (logsIn cs ks es) (commitIn b))
-
-              pub no-room : logsFit (write (logsIn cs ks es) (commitIn b)) ≡ false → 19 ≡ code answer
-              no-room e = sym (ap code (room-decides ∙ ap by-room e))
-
-              -- the plan by room is the plan
-              pub room-plans : planned (roomed (write (logsIn cs ks es) (commitIn b))) (freshIn es (commitIn b)) ≡ planned answer (freshIn es (commitIn b))
-              room-plans = ap (λ (a : Answer Logs). planned a (freshIn es (commitIn b))) (sym room-decides)
+          -- the plan by room is the plan
+          pub room-plans : planned (roomed (write (logsIn cs ks es) (commitIn b))) (freshIn es (commitIn b)) ≡ planned answer (freshIn es (commitIn b))
+          room-plans = ap (λ (a : Answer Logs). planned a (freshIn es (commitIn b))) (sym room-decides)
 
 -- the plan of a number other than 0
 refusal : (a : Answer Logs) (n k : ℕ) → n ≡ code a → (n ≡ 0 → ⊥) → _≡_ {A = Plan} (record { number = n; fresh = 0 }) (planned a k)

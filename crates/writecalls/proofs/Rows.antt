@@ -11,17 +11,16 @@ use native.Mathlib.Omega.{arith}
 use Rattle.octets.specs.Bytes.{be, part}
 use Rattle.octets.proofs.Places.{part-all}
 use Rattle.core.specs.declared.lsn.Lsn.{Lsn}
-use Rattle.pageset.specs.Sets.{normalForm, normal, shown}
+use Rattle.pageset.specs.Sets.{normal, shown}
 use Rattle.pageset.specs.Says.{emptySet}
 use Rattle.pageset.specs.declared.PageSet.{PageSet}
-use Rattle.rules.specs.Lists.{all, given}
+use Rattle.rules.specs.Lists.{all}
 use Rattle.rules.specs.Records.{Segment, Commit}
-use Rattle.rules.specs.Pages.{pagesIn}
-use Rattle.rules.specs.Forms.{idForm, lsnForm, pageForm, segmentForm, listsForm, commitForm, checkpointForm, entryForm}
+use Rattle.rules.specs.Forms.{commitForm}
 use Rattle.rules.specs.Tables.{fits, storeAll}
 use Rattle.rules.specs.Write.{pagesOf, checkpointsOf, entriesOf}
-use Rattle.rules.proofs.TableLaws.{and-fst, and-snd, and-both, all-map, all-weaken}
-use Rattle.rules.proofs.PageLaws.{pages-form, empty-form}
+use Rattle.rules.proofs.TableLaws.{and-fst, and-snd}
+use Rattle.rules.proofs.Write.{set-form}
 use Rattle.table.specs.Table.{countOf, capOf, recs, laid, holds}
 use Rattle.table.specs.Table as B
 use Rattle.table.proofs.Checks.{well-two, well-count}
@@ -44,29 +43,6 @@ use Rattle.indexing.specs.Rows as I
 use Rattle.writecalls.specs.Written.{IsCommit, commitIn, freshIn}
 
 -- ---- forms of what a commit adds
-
-pages-normal : (c : Commit) → commitForm c ≡ true → normalForm (pagesOf (c .segment)) ≡ true
-unfolding commitForm segmentForm listsForm
-pages-normal c e = go (c .segment) (search (and-fst, and-snd))
-  where
-    go : (o : Option Segment) → given segmentForm o ≡ true → normalForm (pagesOf o) ≡ true
-    go none h = empty-form
-    go (some s) h = search (and-fst, and-snd)
-
-pub entries-form : (c : Commit) → commitForm c ≡ true → all entryForm (entriesOf c) ≡ true
-unfolding commitForm entryForm
-entries-form c e =
-    let i : idForm (c .log) ≡ true = search (and-fst, and-snd) in
-    let l : lsnForm (c .lsn) ≡ true = search (and-fst, and-snd) in
-    all-map entryForm (I.entry (c .log) (c .lsn)) (pagesIn (pagesOf (c .segment)))
-    ∙ all-weaken pageForm _ (pagesIn (pagesOf (c .segment))) (λ p h. and-both (and-both i h) l) (pages-form (pagesOf (c .segment)) (pages-normal c e))
-
-pub checkpoints-form : (c : Commit) → commitForm c ≡ true → all checkpointForm (checkpointsOf c) ≡ true
-unfolding commitForm checkpointForm
-checkpoints-form c e =
-    let i : idForm (c .log) ≡ true = search (and-fst, and-snd) in
-    all-map checkpointForm (I.checkpoint (c .log)) (c .checkpoints)
-    ∙ all-weaken lsnForm _ (c .checkpoints) (λ p h. and-both i h) (search (and-fst, and-snd))
 
 few-lsns : (c : Commit) → commitForm c ≡ true → length (c .checkpoints) ≤ 8
 unfolding commitForm
@@ -109,7 +85,7 @@ module _ (b : List ℕ) (ok : IsCommit b) where
 
   module _ (set : PageSet) (es : set ≡ setLaid (pagesOf (commitIn b .segment))) where
     pub set-normal : normal set ≡ true
-    set-normal = ap normal es ∙ laid-normal (pagesOf (commitIn b .segment)) (pages-normal (commitIn b) is-form)
+    set-normal = ap normal es ∙ laid-normal (pagesOf (commitIn b .segment)) (set-form (commitIn b) is-form)
 
     module _ (log : List ℕ) (el : log ≡ commitIn (part 0 722 b) .log) (lsn : ℕ) (en : lsn ≡ commitIn (part 0 722 b) .lsn) where
       -- the rows of its index entries

@@ -21,7 +21,8 @@ use Rattle.rows.proofs.Stores.{put-fits, put-laid}
 use Rattle.rows.proofs.Tables.{commits, index}
 use Rattle.writecalls.specs.declared.Plan.{Plan}
 use Rattle.writecalls.specs.Written.{IsCommit, commitIn, logsIn, freshIn, roomed, planned}
-use Rattle.writecalls.proofs.Rows.{is-form, entries-form, rows-room}
+use Rattle.rules.proofs.Write.{entries-form}
+use Rattle.writecalls.proofs.Rows.{is-form, rows-room}
 
 -- ---- the commit itself: its bytes are its record
 

@@ -41,6 +41,19 @@ const PAGES: usize = 79;
 
 const CHECKPOINTS: usize = 657;
 
+// Whether the three lent tables are formed (20).
+pub fn logs_formed(commits: &[u8], checkpoints: &[u8], index: &[u8]) -> bool
+    ensures { λ r. ⌜ r ≡ logsOk (now (commits .entry)) (now (checkpoints .entry)) (now (index .entry)) ⌝ }
+{
+    if !commits_formed(commits) {
+        return false;
+    }
+    if !checkpoints_formed(checkpoints) {
+        return false;
+    }
+    index_formed(index)
+}
+
 // The pages of a commit, read where its segment's set stands: none where the segment is missing.
 pub fn commit_pages(c: &[u8]) -> PageSet
     requires { ⌜ IsCommit (now c) ⌝ }
@@ -181,13 +194,7 @@ pub fn write_stored(commits: &mut [u8], checkpoints: &mut [u8], index: &mut [u8]
 pub fn write_plan(commits: &[u8], checkpoints: &[u8], index: &[u8], c: &[u8]) -> Plan
     ensures { λ r. ⌜ r ≡ planned (lent (logsOk (now (commits .entry)) (now (checkpoints .entry)) (now (index .entry))) (writeIn (logsIn (now (commits .entry)) (now (checkpoints .entry)) (now (index .entry))) (now (c .entry)))) (freshIn (now (index .entry)) (commitIn (now (c .entry)))) ⌝ }
 {
-    if !commits_formed(commits) {
-        return refused_plan(20);
-    }
-    if !checkpoints_formed(checkpoints) {
-        return refused_plan(20);
-    }
-    if !index_formed(index) {
+    if !logs_formed(commits, checkpoints, index) {
         return refused_plan(20);
     }
     if c.len() != COMMIT {

@@ -2,7 +2,8 @@
 use mathlib.Core.Path.{sym, _∙_}
 use borrow.Author.Tests.{not-true, not-false}
 use Rattle.layout.specs.Records.{commitBytes}
-use Rattle.commitcalls.proofs.CallLaws.{not-formed, commit-read-zero, commit-read-done, refused-before, refused-3, answered}
+use Rattle.layout.proofs.LentLaws.{lent-no}
+use Rattle.commitcalls.proofs.CallLaws.{commit-read-zero, commit-read-done, refused-before, refused-3, answered}
 use borrow.Author.Needs.{needs}
 use Rattle.commitcalls.proofs.commit_read.Statement.{statement}
 use Rattle.commitcalls.proofs.commit_read.Tie as tie
@@ -11,7 +12,7 @@ commits-formed-requires : tie.Need-commits-formed-requires
 commits-formed-requires c κs = search needs
 
 returns : tie.Need-returns
-returns c = refused-before commitBytes (c .before .before .before .before .args .out .now) 722 _ 20 (sym (not-formed _ _ (sym (c .before .commits-formed .ensures) ∙ not-true _ (c .if1 .taken))))
+returns c = refused-before commitBytes (c .before .before .before .before .args .out .now) 722 _ 20 (lent-no _ _ (sym (c .before .commits-formed .ensures) ∙ not-true _ (c .if1 .taken)))
 
 returns-2 : tie.Need-returns-2
 returns-2 c = refused-before commitBytes (c .before .before .before .before .before .args .out .now) 722 _ 1 (commit-read-zero (c .before .before .before .before .before .args .commits .now) (sym (c .before .before .commits-formed .ensures) ∙ not-false _ (c .before .if1 .left)) (c .before .before .before .before .before .args .log) (c .before .before .before .before .before .args .lsn .0) (c .if2 .taken))

@@ -4,7 +4,8 @@ use borrow.Author.Tests.{not-true, not-false}
 use Rattle.rules.specs.Records.{Commit}
 use Rattle.commits.specs.Places.{commitAt}
 use Rattle.commits.proofs.LookLaws.{place-at, place-missing}
-use Rattle.commitcalls.proofs.CallLaws.{not-formed, page-count-zero, page-count-done, field-found, field-missing}
+use Rattle.layout.proofs.LentLaws.{lent-no}
+use Rattle.commitcalls.proofs.CallLaws.{page-count-zero, page-count-done, field-found, field-missing}
 use borrow.Author.Needs.{needs}
 use Rattle.commitcalls.proofs.page_count.Statement.{statement}
 use Rattle.commitcalls.proofs.page_count.Tie as tie
@@ -13,7 +14,7 @@ commits-formed-requires : tie.Need-commits-formed-requires
 commits-formed-requires c κs = search needs
 
 returns : tie.Need-returns
-returns c = not-formed _ _ (sym (c .before .commits-formed .ensures) ∙ not-true _ (c .if1 .taken))
+returns c = sym (lent-no _ _ (sym (c .before .commits-formed .ensures) ∙ not-true _ (c .if1 .taken)))
 
 returns-2 : tie.Need-returns-2
 returns-2 c = sym (page-count-zero (c .before .before .before .before .args .commits .now) (sym (c .before .before .commits-formed .ensures) ∙ not-false _ (c .before .if1 .left)) (c .before .before .before .before .args .log) (c .before .before .before .before .args .lsn .0) (c .if2 .taken))

@@ -4,7 +4,7 @@ use borrow.Author.Tests.{not-true, not-false}
 use mathlib.Core.Path.{_≡_, refl, sym, ap, _∙_}
 use mathlib.Core.Bool.{Bool, not}
 use Rattle.layout.specs.Tables.{volumesIn, commitsIn}
-use Rattle.commitbytes.proofs.CommitLaws.{same-id}
+use Rattle.rules.proofs.Facts.{id-is}
 use Rattle.copycalls.specs.Making.{ids}
 use Rattle.copycalls.proofs.Asks.{vid-used, local-used, remote-used, two-logs}
 use Rattle.copycalls.proofs.copy_free.Statement.{statement}
@@ -32,7 +32,7 @@ same-requires : tie.Need-same-requires
 same-requires c κs = search needs
 
 returns-4 : tie.Need-returns-4
-returns-4 c = ap not (c .same .ensures ∙ same-id ((c .before .before .before .before .before .before .before .before .before) .args .local) ((c .before .before .before .before .before .before .before .before .before) .args .remote)) ∙ two-logs (volumesIn ((c .before .before .before .before .before .before .before .before .before) .args .volumes .now)) (commitsIn ((c .before .before .before .before .before .before .before .before .before) .args .commits .now)) (ids ((c .before .before .before .before .before .before .before .before .before) .args .vid) ((c .before .before .before .before .before .before .before .before .before) .args .local) ((c .before .before .before .before .before .before .before .before .before) .args .remote)) (sym (c .before .before .before .before .before .before .vid-free .ensures) ∙ not-false _ (c .before .before .before .before .before .if1 .left)) (sym (c .before .before .before .before .log-free .ensures) ∙ not-false _ (c .before .before .before .if2 .left)) (sym (c .before .before .log-free2 .ensures) ∙ not-false _ (c .before .if3 .left))
+returns-4 c = ap not (c .same .ensures ∙ id-is ((c .before .before .before .before .before .before .before .before .before) .args .local) ((c .before .before .before .before .before .before .before .before .before) .args .remote)) ∙ two-logs (volumesIn ((c .before .before .before .before .before .before .before .before .before) .args .volumes .now)) (commitsIn ((c .before .before .before .before .before .before .before .before .before) .args .commits .now)) (ids ((c .before .before .before .before .before .before .before .before .before) .args .vid) ((c .before .before .before .before .before .before .before .before .before) .args .local) ((c .before .before .before .before .before .before .before .before .before) .args .remote)) (sym (c .before .before .before .before .before .before .vid-free .ensures) ∙ not-false _ (c .before .before .before .before .before .if1 .left)) (sym (c .before .before .before .before .log-free .ensures) ∙ not-false _ (c .before .before .before .if2 .left)) (sym (c .before .before .log-free2 .ensures) ∙ not-false _ (c .before .if3 .left))
 
 pub copy-free-spec : {M : Type 1} → statement M
 copy-free-spec =

@@ -4,7 +4,7 @@ use mathlib.Core.Path.{_≡_, refl, sym, ap, _∙_}
 use lib.ListN.{getD}
 use mir.Val.{Fits}
 use mir.Syntax.{w8}
-use Rattle.copies.proofs.CopyRows.{id-form}
+use Rattle.layout.proofs.PlaceLaws.{id-form}
 use Rattle.copycalls.proofs.Asks.{new-good}
 use Rattle.copycalls.proofs.new_volume.Statement.{statement}
 use Rattle.copycalls.proofs.new_volume.Tie as tie

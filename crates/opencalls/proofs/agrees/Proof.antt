@@ -2,7 +2,7 @@
 use mathlib.Core.Path.{sym, ap, _∙_}
 use mathlib.Core.Bool.{Bool}
 use borrow.Author.Tests.{not-true, not-false}
-use Rattle.commitbytes.proofs.CommitLaws.{same-id}
+use Rattle.rules.proofs.Facts.{id-is}
 use Rattle.rules.specs.Open.{agreesOn}
 use Rattle.volume.specs.Volumes.{volumeSays}
 use Rattle.opencalls.specs.Opens.{askedBy}
@@ -17,7 +17,7 @@ same-id-requires : tie.Need-same-id-requires
 same-id-requires c κs = search needs
 
 returns-2 : tie.Need-returns-2
-returns-2 c = c .same-id .ensures ∙ same-id _ _ ∙ sym (ap (λ (b : Bool). agreesOn (askedBy b ((c .before .before .before .before .before) .args .remote .id)) (volumeSays ((c .before .before .before .before .before) .args .v))) (not-false ((c .before .before .before .before .before) .args .remote .asked) (c .before .before .before .if1 .left)))
+returns-2 c = c .same-id .ensures ∙ id-is _ _ ∙ sym (ap (λ (b : Bool). agreesOn (askedBy b ((c .before .before .before .before .before) .args .remote .id)) (volumeSays ((c .before .before .before .before .before) .args .v))) (not-false ((c .before .before .before .before .before) .args .remote .asked) (c .before .before .before .if1 .left)))
 
 pub agrees-spec : {M : Type 1} → statement M
 agrees-spec = tie.close (tie.spec returns same-id-requires returns-2)

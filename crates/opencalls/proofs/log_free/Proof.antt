@@ -1,7 +1,7 @@
 -- By whether a log was asked, whether its spare is named, and whether it is the other log.
 use mathlib.Core.Path.{sym, ap, _∙_}
 use mathlib.Core.Bool.{Bool, not, _&&_}
-use Rattle.commitbytes.proofs.CommitLaws.{same-id}
+use Rattle.rules.proofs.Facts.{id-is}
 use Rattle.rules.specs.Tables.{sameId}
 use Rattle.rules.specs.Open.{logFree}
 use Rattle.layout.specs.Tables.{volumesIn, commitsIn}
@@ -23,7 +23,7 @@ same-id-requires : tie.Need-same-id-requires
 same-id-requires c κs = search needs
 
 returns-3 : tie.Need-returns-3
-returns-3 c = ap not (c .same-id .ensures ∙ same-id _ _) ∙ ap (λ (b : Bool). not b && not (sameId ((c .before .before .before .before .before .before .before) .args .w .spare) ((c .before .before .before .before .before .before .before) .args .other))) (sym (sym (c .before .before .log-named .ensures) ∙ c .before .if2 .left)) ∙ sym (ap (λ (b : Bool). logFree (volumesIn ((c .before .before .before .before .before .before .before) .args .volumes .now)) (commitsIn ((c .before .before .before .before .before .before .before) .args .commits .now)) (askedBy b ((c .before .before .before .before .before .before .before) .args .w .id)) ((c .before .before .before .before .before .before .before) .args .w .spare) ((c .before .before .before .before .before .before .before) .args .other)) (c .before .before .before .before .if1 .left))
+returns-3 c = ap not (c .same-id .ensures ∙ id-is _ _) ∙ ap (λ (b : Bool). not b && not (sameId ((c .before .before .before .before .before .before .before) .args .w .spare) ((c .before .before .before .before .before .before .before) .args .other))) (sym (sym (c .before .before .log-named .ensures) ∙ c .before .if2 .left)) ∙ sym (ap (λ (b : Bool). logFree (volumesIn ((c .before .before .before .before .before .before .before) .args .volumes .now)) (commitsIn ((c .before .before .before .before .before .before .before) .args .commits .now)) (askedBy b ((c .before .before .before .before .before .before .before) .args .w .id)) ((c .before .before .before .before .before .before .before) .args .w .spare) ((c .before .before .before .before .before .before .before) .args .other)) (c .before .before .before .before .if1 .left))
 
 pub log-free-spec : {M : Type 1} → statement M
 log-free-spec =

@@ -9,7 +9,7 @@ use native.Mathlib.Omega.{arith}
 use lib.ListN.{length, take, length-set}
 use Rattle.rules.specs.Lists.{those}
 use Rattle.volume.specs.Snapshots.{rangeSays}
-use Rattle.commitbytes.proofs.CommitLaws.{same-id}
+use Rattle.rules.proofs.Facts.{id-is}
 use Rattle.paths.specs.Left.{otherLog}
 use Rattle.paths.proofs.LeftLaws.{other-kept, own-left, none-kept}
 use Rattle.paths.proofs.without.Statement.{statement}
@@ -59,13 +59,13 @@ loop-again c =
       omega (arith, (c .before .before .before .before .before .loop) .inv),
       omega arith,
       length-set ((c .before .before .before .before .before .loop) .kept) ((c .before .before .before .before .before .loop) .n) _ ∙ (c .before .before .before .before .before .loop) .inv .2,
-      other-kept ((c .before .before .before .before .before .before) .args .log) ((c .before .before .before .before .before .before) .args .t1) ((c .before .before .before .before .before .loop) .kept) ((c .before .before .before .before .before .loop) .i) ((c .before .before .before .before .before .loop) .n) _ h ((c .before .before .before .before .before .loop) .inv .3) k (sym (same-id _ _) ∙ sym (c .before .same .ensures) ∙ not-true _ (q .0 .taken)),
+      other-kept ((c .before .before .before .before .before .before) .args .log) ((c .before .before .before .before .before .before) .args .t1) ((c .before .before .before .before .before .loop) .kept) ((c .before .before .before .before .before .loop) .i) ((c .before .before .before .before .before .loop) .n) _ h ((c .before .before .before .before .before .loop) .inv .3) k (sym (id-is _ _) ∙ sym (c .before .same .ensures) ∙ not-true _ (q .0 .taken)),
     ))
     (λ q. rw (q .1, q .2) (
       omega (arith, (c .before .before .before .before .before .loop) .inv),
       omega arith,
       (c .before .before .before .before .before .loop) .inv .2,
-      own-left ((c .before .before .before .before .before .before) .args .log) ((c .before .before .before .before .before .before) .args .t1) ((c .before .before .before .before .before .loop) .kept) ((c .before .before .before .before .before .loop) .i) ((c .before .before .before .before .before .loop) .n) _ h ((c .before .before .before .before .before .loop) .inv .3) (sym (same-id _ _) ∙ sym (c .before .same .ensures) ∙ not-false _ (q .0 .left)),
+      own-left ((c .before .before .before .before .before .before) .args .log) ((c .before .before .before .before .before .before) .args .t1) ((c .before .before .before .before .before .loop) .kept) ((c .before .before .before .before .before .loop) .i) ((c .before .before .before .before .before .loop) .n) _ h ((c .before .before .before .before .before .loop) .inv .3) (sym (id-is _ _) ∙ sym (c .before .same .ensures) ∙ not-false _ (q .0 .left)),
     ))
     (c .if1 .came)
 

@@ -3,9 +3,9 @@ use borrow.Author.Needs.{needs}
 use mathlib.Core.Path.{sym, _∙_}
 use borrow.Author.Tests.{not-true, not-false}
 use native.Mathlib.Omega.{arith}
-use Rattle.layout.proofs.LentLaws.{lent-no}
+use Rattle.layout.proofs.LentLaws.{lent-no, unchanged, changed}
 use Rattle.layout.specs.Records.{presentBytes}
-use Rattle.presencecalls.proofs.Ends.{mark-zero, mark-full, mark-is, unchanged, changed}
+use Rattle.presencecalls.proofs.Ends.{mark-zero, mark-full, mark-is}
 use Rattle.presencecalls.proofs.page_mark.Statement.{statement}
 use Rattle.presencecalls.proofs.page_mark.Tie as tie
 

@@ -4,7 +4,7 @@ use mathlib.Core.Option.{none}
 use Rattle.rules.specs.Records.{Volume}
 use Rattle.rules.specs.Push.{withPending}
 use Rattle.volume.specs.Volumes.{volumeSays}
-use Rattle.volumecalls.proofs.Ends.{dropped-form}
+use Rattle.rules.proofs.Kept.{pending-form}
 use Rattle.pushcalls.proofs.Ends.{inside, read-says, ready-to-store, dropped-bytes}
 use borrow.Author.Needs.{needs}
 use Rattle.pushcalls.proofs.drop_stored.Statement.{statement}
@@ -20,7 +20,7 @@ with-pending-commit-requires : tie.Need-with-pending-commit-requires
 with-pending-commit-requires c κs = search needs
 
 store-volume-requires : tie.Need-store-volume-requires
-store-volume-requires c κs = ready-to-store ((c .before .before .before .before .before .before) .args .volumes .now) ((c .before .before .before .before .before .before) .args .i) _ ((c .before .before .before .before .before .before) .pre .1 .1) ((c .before .before .before .before .before .before) .pre .0) (c .with-pending-commit .result) _ (ap volumeSays (c .with-pending-commit .ensures) ∙ ap (λ (z : Volume). withPending z none) (read-says ((c .before .before .before .before .before .before) .args .volumes .now) ((c .before .before .before .before .before .before) .args .i) _ ((c .before .before .before .before .before .before) .pre .1 .1) _ (c .before .before .before .volume-at .ensures))) refl (dropped-form _ (((c .before .before .before .before .before .before) .pre .1 .1) .form))
+store-volume-requires c κs = ready-to-store ((c .before .before .before .before .before .before) .args .volumes .now) ((c .before .before .before .before .before .before) .args .i) _ ((c .before .before .before .before .before .before) .pre .1 .1) ((c .before .before .before .before .before .before) .pre .0) (c .with-pending-commit .result) _ (ap volumeSays (c .with-pending-commit .ensures) ∙ ap (λ (z : Volume). withPending z none) (read-says ((c .before .before .before .before .before .before) .args .volumes .now) ((c .before .before .before .before .before .before) .args .i) _ ((c .before .before .before .before .before .before) .pre .1 .1) _ (c .before .before .before .volume-at .ensures))) refl (pending-form _ none (((c .before .before .before .before .before .before) .pre .1 .1) .form) refl)
 
 same-length : tie.Need-same-length
 same-length c = search needs

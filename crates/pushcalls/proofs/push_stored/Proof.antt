@@ -2,7 +2,8 @@
 use mathlib.Core.Path.{refl, ap, _∙_}
 use Rattle.rules.specs.Records.{Volume}
 use Rattle.rules.specs.Push.{pushedVolume}
-use Rattle.pushcalls.proofs.Ends.{inside, read-says, ready-to-store, pushed-form, pushed-bytes}
+use Rattle.rules.proofs.Kept.{pushed-form}
+use Rattle.pushcalls.proofs.Ends.{inside, read-says, ready-to-store, pushed-bytes}
 use borrow.Author.Needs.{needs}
 use Rattle.pushcalls.proofs.push_stored.Statement.{statement}
 use Rattle.pushcalls.proofs.push_stored.Tie as tie

@@ -1,8 +1,10 @@
--- Table by table: the first that is not formed decides, and else the last does.
-use mathlib.Core.Path.{_≡_, sym, _∙_}
+-- The first that is not formed decides: the volumes, then the three tables of commits; and else the presence does.
+use mathlib.Core.Path.{sym, _∙_}
 use borrow.Author.Tests.{not-true, not-false}
-use Rattle.savecalls.proofs.Forms.{no-volumes, no-commits, no-checkpoints, no-index, presence-decides}
 use borrow.Author.Needs.{needs}
+use Rattle.rules.proofs.TableLaws.{and-both}
+use Rattle.layout.proofs.PlaceLaws.{stops, goes-on}
+use Rattle.savecalls.specs.Saving.{saveOk}
 use Rattle.savecalls.proofs.tables_formed.Statement.{statement}
 use Rattle.savecalls.proofs.tables_formed.Tie as tie
 
@@ -10,53 +12,26 @@ volumes-formed-requires : tie.Need-volumes-formed-requires
 volumes-formed-requires c κs = search needs
 
 returns : tie.Need-returns
-returns c =
-    let a = (c .before .before .before .before .before .before .before) .args in
-    no-volumes (a .volumes .now) (a .commits .now) (a .checkpoints .now) (a .index .now) (a .presence .now) (sym (c .before .volumes-formed .ensures) ∙ not-true _ (c .if1 .taken))
+unfolding saveOk
+returns c = stops _ (sym (stops _ (sym (c .before .volumes-formed .ensures) ∙ not-true _ (c .if1 .taken))))
 
-commits-formed-requires : tie.Need-commits-formed-requires
-commits-formed-requires c κs = search needs
+logs-formed-requires : tie.Need-logs-formed-requires
+logs-formed-requires c κs = search needs
 
 returns-2 : tie.Need-returns-2
+unfolding saveOk
 returns-2 c =
-    let a = (c .before .before .before .before .before .before .before .before .before) .args in
-    no-commits (a .volumes .now) (a .commits .now) (a .checkpoints .now) (a .index .now) (a .presence .now) (sym (c .before .before .before .volumes-formed .ensures) ∙ not-false _ (c .before .before .if1 .left)) (sym (c .before .commits-formed .ensures) ∙ not-true _ (c .if2 .taken))
-
-checkpoints-formed-requires : tie.Need-checkpoints-formed-requires
-checkpoints-formed-requires c κs = search needs
-
-returns-3 : tie.Need-returns-3
-returns-3 c =
-    let a = (c .before .before .before .before .before .before .before .before .before .before .before) .args in
-    no-checkpoints (a .volumes .now) (a .commits .now) (a .checkpoints .now) (a .index .now) (a .presence .now) (sym (c .before .before .before .before .before .volumes-formed .ensures) ∙ not-false _ (c .before .before .before .before .if1 .left)) (sym (c .before .before .before .commits-formed .ensures) ∙ not-false _ (c .before .before .if2 .left)) (sym (c .before .checkpoints-formed .ensures) ∙ not-true _ (c .if3 .taken))
-
-index-formed-requires : tie.Need-index-formed-requires
-index-formed-requires c κs = search needs
-
-returns-4 : tie.Need-returns-4
-returns-4 c =
-    let a = (c .before .before .before .before .before .before .before .before .before .before .before .before .before) .args in
-    no-index (a .volumes .now) (a .commits .now) (a .checkpoints .now) (a .index .now) (a .presence .now) (sym (c .before .before .before .before .before .before .before .volumes-formed .ensures) ∙ not-false _ (c .before .before .before .before .before .before .if1 .left)) (sym (c .before .before .before .before .before .commits-formed .ensures) ∙ not-false _ (c .before .before .before .before .if2 .left)) (sym (c .before .before .before .checkpoints-formed .ensures) ∙ not-false _ (c .before .before .if3 .left)) (sym (c .before .index-formed .ensures) ∙ not-true _ (c .if4 .taken))
+    stops _ (sym (goes-on _ _ (sym (c .before .before .before .volumes-formed .ensures) ∙ not-false _ (c .before .before .if1 .left)) (sym (sym (c .before .logs-formed .ensures) ∙ not-true _ (c .if2 .taken)))))
 
 presence-formed-requires : tie.Need-presence-formed-requires
 presence-formed-requires c κs = search needs
 
-returns-5 : tie.Need-returns-5
-returns-5 c =
-    let a = (c .before .before .before .before .before .before .before .before .before .before .before .before .before .before) .args in
-    c .presence-formed .ensures ∙ presence-decides (a .volumes .now) (a .commits .now) (a .checkpoints .now) (a .index .now) (a .presence .now) (sym (c .before .before .before .before .before .before .before .before .volumes-formed .ensures) ∙ not-false _ (c .before .before .before .before .before .before .before .if1 .left)) (sym (c .before .before .before .before .before .before .commits-formed .ensures) ∙ not-false _ (c .before .before .before .before .before .if2 .left)) (sym (c .before .before .before .before .checkpoints-formed .ensures) ∙ not-false _ (c .before .before .before .if3 .left)) (sym (c .before .before .index-formed .ensures) ∙ not-false _ (c .before .if4 .left))
+returns-3 : tie.Need-returns-3
+unfolding saveOk
+returns-3 c =
+    goes-on _ _
+    (and-both (sym (c .before .before .before .before .volumes-formed .ensures) ∙ not-false _ (c .before .before .before .if1 .left)) (sym (c .before .before .logs-formed .ensures) ∙ not-false _ (c .before .if2 .left)))
+    (c .presence-formed .ensures)
 
 pub tables-formed-spec : {M : Type 1} → statement M
-tables-formed-spec =
-    tie.close
-    (tie.spec
-    volumes-formed-requires
-    returns
-    commits-formed-requires
-    returns-2
-    checkpoints-formed-requires
-    returns-3
-    index-formed-requires
-    returns-4
-    presence-formed-requires
-    returns-5)
+tables-formed-spec = tie.close (tie.spec volumes-formed-requires returns logs-formed-requires returns-2 presence-formed-requires returns-3)

@@ -1,18 +1,23 @@
 -- What was made is laid out, so its bytes are those of the rules' commit; they fill what is lent.
+use Prim.Native.Nat.{_-_, _≤_, _^_}
 use mathlib.Core.Path.{_≡_}
 use mathlib.Core.Bool.{true}
 use native.Mathlib.Omega.{arith}
+use borrow.Author.Tests.{le-leb}
 use mir.Val.{Fits}
 use mir.Syntax.{w8, w32}
 use lib.ListN.{getD}
+use Rattle.core.specs.Numbers.{lastPage}
 use Rattle.pageset.specs.Sets.{shown}
 use Rattle.rules.specs.Records.{Commit}
-use Rattle.rules.specs.Forms.{commitForm}
+use Rattle.rules.specs.Forms.{countForm, commitForm}
 use Rattle.rules.specs.Save.{savedCommit}
 use Rattle.volume.specs.Volumes.{volumeSays}
 use Rattle.setbytes.proofs.LaidLaws.{shown-form}
 use borrow.Author.Needs.{needs}
-use Rattle.saves.proofs.Made.{saved-form, made-laid, made-bytes}
+use Rattle.rules.proofs.Kept.{saved-form}
+use Rattle.layout.proofs.PlaceLaws.{id-form}
+use Rattle.saves.proofs.Made.{made-laid, made-bytes}
 use Rattle.saves.proofs.write_saved.Statement.{statement}
 use Rattle.saves.proofs.write_saved.Tie as tie
 
@@ -20,10 +25,12 @@ abbrev saved : tie.Start → Commit
 saved c = savedCommit (volumeSays (c .args .v)) (c .args .lsn .0) (c .args .count .0) (c .args .sid) (shown (c .args .set))
 
 formed : (c : tie.Start) → commitForm (saved c) ≡ true
+unfolding countForm lastPage
 formed c =
     let n : Fits w32 (c .args .count .0) = search needs in
-    saved-form (volumeSays (c .args .v)) (c .args .lsn .0) (c .args .count .0) (c .args .sid) (shown (c .args .set)) (c .pre .0 .0) (c .pre .0 .1) (n .fits)
-    (λ j. let f : Fits w8 (getD (c .args .sid) j 0) = search needs in f .fits) (search needs) (shown-form (c .args .set) (c .pre .0 .2))
+    let few : c .args .count .0 ≤ 2 ^ 32 - 1 = omega (arith, n .fits) in
+    saved-form (volumeSays (c .args .v)) (c .args .lsn .0) (c .args .count .0) (c .args .sid) (shown (c .args .set)) (c .pre .0 .0) (c .pre .0 .1) (le-leb (c .args .count .0) (2 ^ 32 - 1) few)
+    (id-form (c .args .sid) (search needs) (λ j. let f : Fits w8 (getD (c .args .sid) j 0) = search needs in f .fits)) (shown-form (c .args .set) (c .pre .0 .2))
 
 commit-made-requires : tie.Need-commit-made-requires
 commit-made-requires c κs = search needs

@@ -19,7 +19,9 @@ use Rattle.table.proofs.Ends.{at-in}
 use Rattle.layout.specs.Tables.{volumesIn}
 use Rattle.volume.specs.Volumes.{volumeSays}
 use Rattle.volume.specs.declared.volume.Volume.{Volume as CodeVolume}
-use Rattle.volumecalls.proofs.Ends.{nowhere, unchanged, changed}
+use Rattle.layout.specs.Records.{volumeBytes}
+use Rattle.layout.proofs.LentLaws.{unchanged, changed}
+use Rattle.volumecalls.proofs.Ends.{nowhere}
 use Rattle.viewcalls.proofs.Ends.{no-volumes, no-commits}
 use Rattle.synccalls.proofs.Ends.{prepare-zero, prepare-nowhere, prepare-pending, prepare-pushed, prepare-apart, prepare-zero-hash, prepare-done, found-here, form-here, store-ready, pending-good, prepared-form}
 use borrow.Author.Needs.{needs}
@@ -43,7 +45,7 @@ same-length : tie.Need-same-length
 same-length c = search needs
 
 returns : tie.Need-returns
-returns c = unchanged ((c .before .before .before .before .before) .args .volumes .now) _ 20 (no-volumes ((c .before .before .before .before .before) .args .volumes .now) ((c .before .before .before .before .before) .args .commits .now) _ (sym (c .before .volumes-formed .ensures) ∙ not-true _ (c .if1 .taken)))
+returns c = unchanged volumeBytes ((c .before .before .before .before .before) .args .volumes .now) _ 20 (no-volumes ((c .before .before .before .before .before) .args .volumes .now) ((c .before .before .before .before .before) .args .commits .now) _ (sym (c .before .volumes-formed .ensures) ∙ not-true _ (c .if1 .taken)))
 
 commits-formed-requires : tie.Need-commits-formed-requires
 commits-formed-requires c κs = search needs
@@ -52,7 +54,7 @@ same-length-2 : tie.Need-same-length-2
 same-length-2 c = search needs
 
 returns-2 : tie.Need-returns-2
-returns-2 c = unchanged ((c .before .before .before .before .before .before .before) .args .volumes .now) _ 20 (no-commits ((c .before .before .before .before .before .before .before) .args .volumes .now) ((c .before .before .before .before .before .before .before) .args .commits .now) _ (sym (c .before .commits-formed .ensures) ∙ not-true _ (c .if2 .taken)))
+returns-2 c = unchanged volumeBytes ((c .before .before .before .before .before .before .before) .args .volumes .now) _ 20 (no-commits ((c .before .before .before .before .before .before .before) .args .volumes .now) ((c .before .before .before .before .before .before .before) .args .commits .now) _ (sym (c .before .commits-formed .ensures) ∙ not-true _ (c .if2 .taken)))
 
 both-count-requires : tie.Need-both-count-requires
 both-count-requires c κs = search needs
@@ -61,7 +63,7 @@ same-length-3 : tie.Need-same-length-3
 same-length-3 c = search needs
 
 returns-3 : tie.Need-returns-3
-returns-3 c = unchanged ((c .before .before .before .before .before .before .before .before .before) .args .volumes .now) _ 1 (prepare-zero ((c .before .before .before .before .before .before .before .before .before) .args .volumes .now) ((c .before .before .before .before .before .before .before .before .before) .args .commits .now) ((c .before .before .before .before .before .before .before .before .before) .args .vid) (asked (c .before .before .before .before .before .before .before .before .before)) (sym (c .before .before .before .before .before .volumes-formed .ensures) ∙ not-false _ (c .before .before .before .before .if1 .left)) (sym (c .before .before .before .commits-formed .ensures) ∙ not-false _ (c .before .before .if2 .left)) (sym (c .before .both-count .ensures) ∙ not-true _ (c .if3 .taken)))
+returns-3 c = unchanged volumeBytes ((c .before .before .before .before .before .before .before .before .before) .args .volumes .now) _ 1 (prepare-zero ((c .before .before .before .before .before .before .before .before .before) .args .volumes .now) ((c .before .before .before .before .before .before .before .before .before) .args .commits .now) ((c .before .before .before .before .before .before .before .before .before) .args .vid) (asked (c .before .before .before .before .before .before .before .before .before)) (sym (c .before .before .before .before .before .volumes-formed .ensures) ∙ not-false _ (c .before .before .before .before .if1 .left)) (sym (c .before .before .before .commits-formed .ensures) ∙ not-false _ (c .before .before .if2 .left)) (sym (c .before .both-count .ensures) ∙ not-true _ (c .if3 .taken)))
 
 find-volume-requires : tie.Need-find-volume-requires
 find-volume-requires c κs = (sym (c .before .before .before .before .before .before .volumes-formed .ensures) ∙ not-false _ (c .before .before .before .before .before .if1 .left))
@@ -76,7 +78,7 @@ same-length-4 : tie.Need-same-length-4
 same-length-4 c = search needs
 
 returns-4 : tie.Need-returns-4
-returns-4 c = unchanged ((c .before .before .before .before .before .before .before .before .before .before .before .before .before) .args .volumes .now) _ 4 (prepare-nowhere ((c .before .before .before .before .before .before .before .before .before .before .before .before .before) .args .volumes .now) ((c .before .before .before .before .before .before .before .before .before .before .before .before .before) .args .commits .now) ((c .before .before .before .before .before .before .before .before .before .before .before .before .before) .args .vid) (asked (c .before .before .before .before .before .before .before .before .before .before .before .before .before)) (sym (c .before .before .before .before .before .before .before .before .before .volumes-formed .ensures) ∙ not-false _ (c .before .before .before .before .before .before .before .before .if1 .left)) (sym (c .before .before .before .before .before .before .before .commits-formed .ensures) ∙ not-false _ (c .before .before .before .before .before .before .if2 .left)) (sym (c .before .before .before .before .before .both-count .ensures) ∙ not-false _ (c .before .before .before .before .if3 .left)) (nowhere ((c .before .before .before .before .before .before .before .before .before .before .before .before .before) .args .volumes .now) ((c .before .before .before .before .before .before .before .before .before .before .before .before .before) .args .vid) (sym (c .before .before .before .before .before .before .before .before .before .volumes-formed .ensures) ∙ not-false _ (c .before .before .before .before .before .before .before .before .if1 .left)) _ _ (c .before .before .find-volume .ensures .says) (c .enum-told .given .1)))
+returns-4 c = unchanged volumeBytes ((c .before .before .before .before .before .before .before .before .before .before .before .before .before) .args .volumes .now) _ 4 (prepare-nowhere ((c .before .before .before .before .before .before .before .before .before .before .before .before .before) .args .volumes .now) ((c .before .before .before .before .before .before .before .before .before .before .before .before .before) .args .commits .now) ((c .before .before .before .before .before .before .before .before .before .before .before .before .before) .args .vid) (asked (c .before .before .before .before .before .before .before .before .before .before .before .before .before)) (sym (c .before .before .before .before .before .before .before .before .before .volumes-formed .ensures) ∙ not-false _ (c .before .before .before .before .before .before .before .before .if1 .left)) (sym (c .before .before .before .before .before .before .before .commits-formed .ensures) ∙ not-false _ (c .before .before .before .before .before .before .if2 .left)) (sym (c .before .before .before .before .before .both-count .ensures) ∙ not-false _ (c .before .before .before .before .if3 .left)) (nowhere ((c .before .before .before .before .before .before .before .before .before .before .before .before .before) .args .volumes .now) ((c .before .before .before .before .before .before .before .before .before .before .before .before .before) .args .vid) (sym (c .before .before .before .before .before .before .before .before .before .volumes-formed .ensures) ∙ not-false _ (c .before .before .before .before .before .before .before .before .if1 .left)) _ _ (c .before .before .find-volume .ensures .says) (c .enum-told .given .1)))
 
 volume-at-requires : tie.Need-volume-at-requires
 volume-at-requires c κs = ((sym (c .before .before .before .before .before .before .before .before .before .before .before .volumes-formed .ensures) ∙ not-false _ (c .before .before .before .before .before .before .before .before .before .before .if1 .left)), at-in 117 17 ((c .before .before .before .before .before .before .before .before .before .before .before .before .before .before .before) .args .volumes .now) _ _ _ (c .before .before .before .before .find-volume .ensures .place) (c .before .before .i .given .1))
@@ -88,7 +90,7 @@ same-length-5 : tie.Need-same-length-5
 same-length-5 c = search needs
 
 returns-5 : tie.Need-returns-5
-returns-5 c = unchanged ((c .before .before .before .before .before .before .before .before .before .before .before .before .before .before .before .before .before .before .before) .args .volumes .now) _ 9 (prepare-pending ((c .before .before .before .before .before .before .before .before .before .before .before .before .before .before .before .before .before .before .before) .args .volumes .now) ((c .before .before .before .before .before .before .before .before .before .before .before .before .before .before .before .before .before .before .before) .args .commits .now) ((c .before .before .before .before .before .before .before .before .before .before .before .before .before .before .before .before .before .before .before) .args .vid) (asked (c .before .before .before .before .before .before .before .before .before .before .before .before .before .before .before .before .before .before .before)) (sym (c .before .before .before .before .before .before .before .before .before .before .before .before .before .before .before .volumes-formed .ensures) ∙ not-false _ (c .before .before .before .before .before .before .before .before .before .before .before .before .before .before .if1 .left)) (sym (c .before .before .before .before .before .before .before .before .before .before .before .before .before .commits-formed .ensures) ∙ not-false _ (c .before .before .before .before .before .before .before .before .before .before .before .before .if2 .left)) (sym (c .before .before .before .before .before .before .before .before .before .before .before .both-count .ensures) ∙ not-false _ (c .before .before .before .before .before .before .before .before .before .before .if3 .left)) (volumeSays (c .before .before .before .volume-at .result)) (found-here ((c .before .before .before .before .before .before .before .before .before .before .before .before .before .before .before .before .before .before .before) .args .volumes .now) ((c .before .before .before .before .before .before .before .before .before .before .before .before .before .before .before .before .before .before .before) .args .vid) (sym (c .before .before .before .before .before .before .before .before .before .before .before .before .before .before .before .volumes-formed .ensures) ∙ not-false _ (c .before .before .before .before .before .before .before .before .before .before .before .before .before .before .if1 .left)) _ _ (c .before .before .before .before .before .before .before .before .find-volume .ensures .says) (c .before .before .before .before .before .before .i .given .1) (c .before .before .before .volume-at .result) (c .before .before .before .volume-at .ensures)) (sym (c .before .none-pending .ensures) ∙ not-true _ (c .if4 .taken)))
+returns-5 c = unchanged volumeBytes ((c .before .before .before .before .before .before .before .before .before .before .before .before .before .before .before .before .before .before .before) .args .volumes .now) _ 9 (prepare-pending ((c .before .before .before .before .before .before .before .before .before .before .before .before .before .before .before .before .before .before .before) .args .volumes .now) ((c .before .before .before .before .before .before .before .before .before .before .before .before .before .before .before .before .before .before .before) .args .commits .now) ((c .before .before .before .before .before .before .before .before .before .before .before .before .before .before .before .before .before .before .before) .args .vid) (asked (c .before .before .before .before .before .before .before .before .before .before .before .before .before .before .before .before .before .before .before)) (sym (c .before .before .before .before .before .before .before .before .before .before .before .before .before .before .before .volumes-formed .ensures) ∙ not-false _ (c .before .before .before .before .before .before .before .before .before .before .before .before .before .before .if1 .left)) (sym (c .before .before .before .before .before .before .before .before .before .before .before .before .before .commits-formed .ensures) ∙ not-false _ (c .before .before .before .before .before .before .before .before .before .before .before .before .if2 .left)) (sym (c .before .before .before .before .before .before .before .before .before .before .before .both-count .ensures) ∙ not-false _ (c .before .before .before .before .before .before .before .before .before .before .if3 .left)) (volumeSays (c .before .before .before .volume-at .result)) (found-here ((c .before .before .before .before .before .before .before .before .before .before .before .before .before .before .before .before .before .before .before) .args .volumes .now) ((c .before .before .before .before .before .before .before .before .before .before .before .before .before .before .before .before .before .before .before) .args .vid) (sym (c .before .before .before .before .before .before .before .before .before .before .before .before .before .before .before .volumes-formed .ensures) ∙ not-false _ (c .before .before .before .before .before .before .before .before .before .before .before .before .before .before .if1 .left)) _ _ (c .before .before .before .before .before .before .before .before .find-volume .ensures .says) (c .before .before .before .before .before .before .i .given .1) (c .before .before .before .volume-at .result) (c .before .before .before .volume-at .ensures)) (sym (c .before .none-pending .ensures) ∙ not-true _ (c .if4 .taken)))
 
 watermark-of-requires : tie.Need-watermark-of-requires
 watermark-of-requires c κs = search needs
@@ -100,7 +102,7 @@ same-length-6 : tie.Need-same-length-6
 same-length-6 c = search needs
 
 returns-6 : tie.Need-returns-6
-returns-6 c = unchanged ((c .before .before .before .before .before .before .before .before .before .before .before .before .before .before .before .before .before .before .before .before .before .before) .args .volumes .now) _ 11 (prepare-pushed ((c .before .before .before .before .before .before .before .before .before .before .before .before .before .before .before .before .before .before .before .before .before .before) .args .volumes .now) ((c .before .before .before .before .before .before .before .before .before .before .before .before .before .before .before .before .before .before .before .before .before .before) .args .commits .now) ((c .before .before .before .before .before .before .before .before .before .before .before .before .before .before .before .before .before .before .before .before .before .before) .args .vid) (asked (c .before .before .before .before .before .before .before .before .before .before .before .before .before .before .before .before .before .before .before .before .before .before)) (sym (c .before .before .before .before .before .before .before .before .before .before .before .before .before .before .before .before .before .before .volumes-formed .ensures) ∙ not-false _ (c .before .before .before .before .before .before .before .before .before .before .before .before .before .before .before .before .before .if1 .left)) (sym (c .before .before .before .before .before .before .before .before .before .before .before .before .before .before .before .before .commits-formed .ensures) ∙ not-false _ (c .before .before .before .before .before .before .before .before .before .before .before .before .before .before .before .if2 .left)) (sym (c .before .before .before .before .before .before .before .before .before .before .before .before .before .before .both-count .ensures) ∙ not-false _ (c .before .before .before .before .before .before .before .before .before .before .before .before .before .if3 .left)) (volumeSays (c .before .before .before .before .before .before .volume-at .result)) (found-here ((c .before .before .before .before .before .before .before .before .before .before .before .before .before .before .before .before .before .before .before .before .before .before) .args .volumes .now) ((c .before .before .before .before .before .before .before .before .before .before .before .before .before .before .before .before .before .before .before .before .before .before) .args .vid) (sym (c .before .before .before .before .before .before .before .before .before .before .before .before .before .before .before .before .before .before .volumes-formed .ensures) ∙ not-false _ (c .before .before .before .before .before .before .before .before .before .before .before .before .before .before .before .before .before .if1 .left)) _ _ (c .before .before .before .before .before .before .before .before .before .before .before .find-volume .ensures .says) (c .before .before .before .before .before .before .before .before .before .i .given .1) (c .before .before .before .before .before .before .volume-at .result) (c .before .before .before .before .before .before .volume-at .ensures)) (sym (c .before .before .before .before .none-pending .ensures) ∙ not-false _ (c .before .before .before .if4 .left)) (ap (λ (m : Option ℕ). below m ((c .before .before .before .before .before .before .before .before .before .before .before .before .before .before .before .before .before .before .before .before .before .before) .args .local .0)) (sym (c .before .before .watermark-of .ensures)) ∙ sym (c .before .is-below .ensures) ∙ not-true _ (c .if5 .taken)))
+returns-6 c = unchanged volumeBytes ((c .before .before .before .before .before .before .before .before .before .before .before .before .before .before .before .before .before .before .before .before .before .before) .args .volumes .now) _ 11 (prepare-pushed ((c .before .before .before .before .before .before .before .before .before .before .before .before .before .before .before .before .before .before .before .before .before .before) .args .volumes .now) ((c .before .before .before .before .before .before .before .before .before .before .before .before .before .before .before .before .before .before .before .before .before .before) .args .commits .now) ((c .before .before .before .before .before .before .before .before .before .before .before .before .before .before .before .before .before .before .before .before .before .before) .args .vid) (asked (c .before .before .before .before .before .before .before .before .before .before .before .before .before .before .before .before .before .before .before .before .before .before)) (sym (c .before .before .before .before .before .before .before .before .before .before .before .before .before .before .before .before .before .before .volumes-formed .ensures) ∙ not-false _ (c .before .before .before .before .before .before .before .before .before .before .before .before .before .before .before .before .before .if1 .left)) (sym (c .before .before .before .before .before .before .before .before .before .before .before .before .before .before .before .before .commits-formed .ensures) ∙ not-false _ (c .before .before .before .before .before .before .before .before .before .before .before .before .before .before .before .if2 .left)) (sym (c .before .before .before .before .before .before .before .before .before .before .before .before .before .before .both-count .ensures) ∙ not-false _ (c .before .before .before .before .before .before .before .before .before .before .before .before .before .if3 .left)) (volumeSays (c .before .before .before .before .before .before .volume-at .result)) (found-here ((c .before .before .before .before .before .before .before .before .before .before .before .before .before .before .before .before .before .before .before .before .before .before) .args .volumes .now) ((c .before .before .before .before .before .before .before .before .before .before .before .before .before .before .before .before .before .before .before .before .before .before) .args .vid) (sym (c .before .before .before .before .before .before .before .before .before .before .before .before .before .before .before .before .before .before .volumes-formed .ensures) ∙ not-false _ (c .before .before .before .before .before .before .before .before .before .before .before .before .before .before .before .before .before .if1 .left)) _ _ (c .before .before .before .before .before .before .before .before .before .before .before .find-volume .ensures .says) (c .before .before .before .before .before .before .before .before .before .i .given .1) (c .before .before .before .before .before .before .volume-at .result) (c .before .before .before .before .before .before .volume-at .ensures)) (sym (c .before .before .before .before .none-pending .ensures) ∙ not-false _ (c .before .before .before .if4 .left)) (ap (λ (m : Option ℕ). below m ((c .before .before .before .before .before .before .before .before .before .before .before .before .before .before .before .before .before .before .before .before .before .before) .args .local .0)) (sym (c .before .before .watermark-of .ensures)) ∙ sym (c .before .is-below .ensures) ∙ not-true _ (c .if5 .taken)))
 
 latest-lsn-requires : tie.Need-latest-lsn-requires
 latest-lsn-requires c κs = (sym (c .before .before .before .before .before .before .before .before .before .before .before .before .before .before .before .before .commits-formed .ensures) ∙ not-false _ (c .before .before .before .before .before .before .before .before .before .before .before .before .before .before .before .if2 .left))
@@ -112,7 +114,7 @@ same-length-7 : tie.Need-same-length-7
 same-length-7 c = search needs
 
 returns-7 : tie.Need-returns-7
-returns-7 c = unchanged ((c .before .before .before .before .before .before .before .before .before .before .before .before .before .before .before .before .before .before .before .before .before .before .before .before .before) .args .volumes .now) _ 12 (prepare-apart ((c .before .before .before .before .before .before .before .before .before .before .before .before .before .before .before .before .before .before .before .before .before .before .before .before .before) .args .volumes .now) ((c .before .before .before .before .before .before .before .before .before .before .before .before .before .before .before .before .before .before .before .before .before .before .before .before .before) .args .commits .now) ((c .before .before .before .before .before .before .before .before .before .before .before .before .before .before .before .before .before .before .before .before .before .before .before .before .before) .args .vid) (asked (c .before .before .before .before .before .before .before .before .before .before .before .before .before .before .before .before .before .before .before .before .before .before .before .before .before)) (sym (c .before .before .before .before .before .before .before .before .before .before .before .before .before .before .before .before .before .before .before .before .before .volumes-formed .ensures) ∙ not-false _ (c .before .before .before .before .before .before .before .before .before .before .before .before .before .before .before .before .before .before .before .before .if1 .left)) (sym (c .before .before .before .before .before .before .before .before .before .before .before .before .before .before .before .before .before .before .before .commits-formed .ensures) ∙ not-false _ (c .before .before .before .before .before .before .before .before .before .before .before .before .before .before .before .before .before .before .if2 .left)) (sym (c .before .before .before .before .before .before .before .before .before .before .before .before .before .before .before .before .before .both-count .ensures) ∙ not-false _ (c .before .before .before .before .before .before .before .before .before .before .before .before .before .before .before .before .if3 .left)) (volumeSays (c .before .before .before .before .before .before .before .before .before .volume-at .result)) (found-here ((c .before .before .before .before .before .before .before .before .before .before .before .before .before .before .before .before .before .before .before .before .before .before .before .before .before) .args .volumes .now) ((c .before .before .before .before .before .before .before .before .before .before .before .before .before .before .before .before .before .before .before .before .before .before .before .before .before) .args .vid) (sym (c .before .before .before .before .before .before .before .before .before .before .before .before .before .before .before .before .before .before .before .before .before .volumes-formed .ensures) ∙ not-false _ (c .before .before .before .before .before .before .before .before .before .before .before .before .before .before .before .before .before .before .before .before .if1 .left)) _ _ (c .before .before .before .before .before .before .before .before .before .before .before .before .before .before .find-volume .ensures .says) (c .before .before .before .before .before .before .before .before .before .before .before .before .i .given .1) (c .before .before .before .before .before .before .before .before .before .volume-at .result) (c .before .before .before .before .before .before .before .before .before .volume-at .ensures)) (sym (c .before .before .before .before .before .before .before .none-pending .ensures) ∙ not-false _ (c .before .before .before .before .before .before .if4 .left)) (ap (λ (m : Option ℕ). below m ((c .before .before .before .before .before .before .before .before .before .before .before .before .before .before .before .before .before .before .before .before .before .before .before .before .before) .args .local .0)) (sym (c .before .before .before .before .before .watermark-of .ensures)) ∙ sym (c .before .before .before .before .is-below .ensures) ∙ not-false _ (c .before .before .before .if5 .left)) (ap (λ (m : Option ℕ). isBefore m ((c .before .before .before .before .before .before .before .before .before .before .before .before .before .before .before .before .before .before .before .before .before .before .before .before .before) .args .commit .0)) (sym (c .before .before .latest-lsn .ensures)) ∙ sym (c .before .is-next .ensures) ∙ not-true _ (c .if6 .taken)))
+returns-7 c = unchanged volumeBytes ((c .before .before .before .before .before .before .before .before .before .before .before .before .before .before .before .before .before .before .before .before .before .before .before .before .before) .args .volumes .now) _ 12 (prepare-apart ((c .before .before .before .before .before .before .before .before .before .before .before .before .before .before .before .before .before .before .before .before .before .before .before .before .before) .args .volumes .now) ((c .before .before .before .before .before .before .before .before .before .before .before .before .before .before .before .before .before .before .before .before .before .before .before .before .before) .args .commits .now) ((c .before .before .before .before .before .before .before .before .before .before .before .before .before .before .before .before .before .before .before .before .before .before .before .before .before) .args .vid) (asked (c .before .before .before .before .before .before .before .before .before .before .before .before .before .before .before .before .before .before .before .before .before .before .before .before .before)) (sym (c .before .before .before .before .before .before .before .before .before .before .before .before .before .before .before .before .before .before .before .before .before .volumes-formed .ensures) ∙ not-false _ (c .before .before .before .before .before .before .before .before .before .before .before .before .before .before .before .before .before .before .before .before .if1 .left)) (sym (c .before .before .before .before .before .before .before .before .before .before .before .before .before .before .before .before .before .before .before .commits-formed .ensures) ∙ not-false _ (c .before .before .before .before .before .before .before .before .before .before .before .before .before .before .before .before .before .before .if2 .left)) (sym (c .before .before .before .before .before .before .before .before .before .before .before .before .before .before .before .before .before .both-count .ensures) ∙ not-false _ (c .before .before .before .before .before .before .before .before .before .before .before .before .before .before .before .before .if3 .left)) (volumeSays (c .before .before .before .before .before .before .before .before .before .volume-at .result)) (found-here ((c .before .before .before .before .before .before .before .before .before .before .before .before .before .before .before .before .before .before .before .before .before .before .before .before .before) .args .volumes .now) ((c .before .before .before .before .before .before .before .before .before .before .before .before .before .before .before .before .before .before .before .before .before .before .before .before .before) .args .vid) (sym (c .before .before .before .before .before .before .before .before .before .before .before .before .before .before .before .before .before .before .before .before .before .volumes-formed .ensures) ∙ not-false _ (c .before .before .before .before .before .before .before .before .before .before .before .before .before .before .before .before .before .before .before .before .if1 .left)) _ _ (c .before .before .before .before .before .before .before .before .before .before .before .before .before .before .find-volume .ensures .says) (c .before .before .before .before .before .before .before .before .before .before .before .before .i .given .1) (c .before .before .before .before .before .before .before .before .before .volume-at .result) (c .before .before .before .before .before .before .before .before .before .volume-at .ensures)) (sym (c .before .before .before .before .before .before .before .none-pending .ensures) ∙ not-false _ (c .before .before .before .before .before .before .if4 .left)) (ap (λ (m : Option ℕ). below m ((c .before .before .before .before .before .before .before .before .before .before .before .before .before .before .before .before .before .before .before .before .before .before .before .before .before) .args .local .0)) (sym (c .before .before .before .before .before .watermark-of .ensures)) ∙ sym (c .before .before .before .before .is-below .ensures) ∙ not-false _ (c .before .before .before .if5 .left)) (ap (λ (m : Option ℕ). isBefore m ((c .before .before .before .before .before .before .before .before .before .before .before .before .before .before .before .before .before .before .before .before .before .before .before .before .before) .args .commit .0)) (sym (c .before .before .latest-lsn .ensures)) ∙ sym (c .before .is-next .ensures) ∙ not-true _ (c .if6 .taken)))
 
 is-zero-requires : tie.Need-is-zero-requires
 is-zero-requires c κs = search needs
@@ -121,7 +123,7 @@ same-length-8 : tie.Need-same-length-8
 same-length-8 c = search needs
 
 returns-8 : tie.Need-returns-8
-returns-8 c = unchanged ((c .before .before .before .before .before .before .before .before .before .before .before .before .before .before .before .before .before .before .before .before .before .before .before .before .before .before .before) .args .volumes .now) _ 13 (prepare-zero-hash ((c .before .before .before .before .before .before .before .before .before .before .before .before .before .before .before .before .before .before .before .before .before .before .before .before .before .before .before) .args .volumes .now) ((c .before .before .before .before .before .before .before .before .before .before .before .before .before .before .before .before .before .before .before .before .before .before .before .before .before .before .before) .args .commits .now) ((c .before .before .before .before .before .before .before .before .before .before .before .before .before .before .before .before .before .before .before .before .before .before .before .before .before .before .before) .args .vid) (asked (c .before .before .before .before .before .before .before .before .before .before .before .before .before .before .before .before .before .before .before .before .before .before .before .before .before .before .before)) (sym (c .before .before .before .before .before .before .before .before .before .before .before .before .before .before .before .before .before .before .before .before .before .before .before .volumes-formed .ensures) ∙ not-false _ (c .before .before .before .before .before .before .before .before .before .before .before .before .before .before .before .before .before .before .before .before .before .before .if1 .left)) (sym (c .before .before .before .before .before .before .before .before .before .before .before .before .before .before .before .before .before .before .before .before .before .commits-formed .ensures) ∙ not-false _ (c .before .before .before .before .before .before .before .before .before .before .before .before .before .before .before .before .before .before .before .before .if2 .left)) (sym (c .before .before .before .before .before .before .before .before .before .before .before .before .before .before .before .before .before .before .before .both-count .ensures) ∙ not-false _ (c .before .before .before .before .before .before .before .before .before .before .before .before .before .before .before .before .before .before .if3 .left)) (volumeSays (c .before .before .before .before .before .before .before .before .before .before .before .volume-at .result)) (found-here ((c .before .before .before .before .before .before .before .before .before .before .before .before .before .before .before .before .before .before .before .before .before .before .before .before .before .before .before) .args .volumes .now) ((c .before .before .before .before .before .before .before .before .before .before .before .before .before .before .before .before .before .before .before .before .before .before .before .before .before .before .before) .args .vid) (sym (c .before .before .before .before .before .before .before .before .before .before .before .before .before .before .before .before .before .before .before .before .before .before .before .volumes-formed .ensures) ∙ not-false _ (c .before .before .before .before .before .before .before .before .before .before .before .before .before .before .before .before .before .before .before .before .before .before .if1 .left)) _ _ (c .before .before .before .before .before .before .before .before .before .before .before .before .before .before .before .before .find-volume .ensures .says) (c .before .before .before .before .before .before .before .before .before .before .before .before .before .before .i .given .1) (c .before .before .before .before .before .before .before .before .before .before .before .volume-at .result) (c .before .before .before .before .before .before .before .before .before .before .before .volume-at .ensures)) (sym (c .before .before .before .before .before .before .before .before .before .none-pending .ensures) ∙ not-false _ (c .before .before .before .before .before .before .before .before .if4 .left)) (ap (λ (m : Option ℕ). below m ((c .before .before .before .before .before .before .before .before .before .before .before .before .before .before .before .before .before .before .before .before .before .before .before .before .before .before .before) .args .local .0)) (sym (c .before .before .before .before .before .before .before .watermark-of .ensures)) ∙ sym (c .before .before .before .before .before .before .is-below .ensures) ∙ not-false _ (c .before .before .before .before .before .if5 .left)) (ap (λ (m : Option ℕ). isBefore m ((c .before .before .before .before .before .before .before .before .before .before .before .before .before .before .before .before .before .before .before .before .before .before .before .before .before .before .before) .args .commit .0)) (sym (c .before .before .before .before .latest-lsn .ensures)) ∙ sym (c .before .before .before .is-next .ensures) ∙ not-false _ (c .before .before .if6 .left)) (sym (c .before .is-zero .ensures) ∙ c .if7 .taken))
+returns-8 c = unchanged volumeBytes ((c .before .before .before .before .before .before .before .before .before .before .before .before .before .before .before .before .before .before .before .before .before .before .before .before .before .before .before) .args .volumes .now) _ 13 (prepare-zero-hash ((c .before .before .before .before .before .before .before .before .before .before .before .before .before .before .before .before .before .before .before .before .before .before .before .before .before .before .before) .args .volumes .now) ((c .before .before .before .before .before .before .before .before .before .before .before .before .before .before .before .before .before .before .before .before .before .before .before .before .before .before .before) .args .commits .now) ((c .before .before .before .before .before .before .before .before .before .before .before .before .before .before .before .before .before .before .before .before .before .before .before .before .before .before .before) .args .vid) (asked (c .before .before .before .before .before .before .before .before .before .before .before .before .before .before .before .before .before .before .before .before .before .before .before .before .before .before .before)) (sym (c .before .before .before .before .before .before .before .before .before .before .before .before .before .before .before .before .before .before .before .before .before .before .before .volumes-formed .ensures) ∙ not-false _ (c .before .before .before .before .before .before .before .before .before .before .before .before .before .before .before .before .before .before .before .before .before .before .if1 .left)) (sym (c .before .before .before .before .before .before .before .before .before .before .before .before .before .before .before .before .before .before .before .before .before .commits-formed .ensures) ∙ not-false _ (c .before .before .before .before .before .before .before .before .before .before .before .before .before .before .before .before .before .before .before .before .if2 .left)) (sym (c .before .before .before .before .before .before .before .before .before .before .before .before .before .before .before .before .before .before .before .both-count .ensures) ∙ not-false _ (c .before .before .before .before .before .before .before .before .before .before .before .before .before .before .before .before .before .before .if3 .left)) (volumeSays (c .before .before .before .before .before .before .before .before .before .before .before .volume-at .result)) (found-here ((c .before .before .before .before .before .before .before .before .before .before .before .before .before .before .before .before .before .before .before .before .before .before .before .before .before .before .before) .args .volumes .now) ((c .before .before .before .before .before .before .before .before .before .before .before .before .before .before .before .before .before .before .before .before .before .before .before .before .before .before .before) .args .vid) (sym (c .before .before .before .before .before .before .before .before .before .before .before .before .before .before .before .before .before .before .before .before .before .before .before .volumes-formed .ensures) ∙ not-false _ (c .before .before .before .before .before .before .before .before .before .before .before .before .before .before .before .before .before .before .before .before .before .before .if1 .left)) _ _ (c .before .before .before .before .before .before .before .before .before .before .before .before .before .before .before .before .find-volume .ensures .says) (c .before .before .before .before .before .before .before .before .before .before .before .before .before .before .i .given .1) (c .before .before .before .before .before .before .before .before .before .before .before .volume-at .result) (c .before .before .before .before .before .before .before .before .before .before .before .volume-at .ensures)) (sym (c .before .before .before .before .before .before .before .before .before .none-pending .ensures) ∙ not-false _ (c .before .before .before .before .before .before .before .before .if4 .left)) (ap (λ (m : Option ℕ). below m ((c .before .before .before .before .before .before .before .before .before .before .before .before .before .before .before .before .before .before .before .before .before .before .before .before .before .before .before) .args .local .0)) (sym (c .before .before .before .before .before .before .before .watermark-of .ensures)) ∙ sym (c .before .before .before .before .before .before .is-below .ensures) ∙ not-false _ (c .before .before .before .before .before .if5 .left)) (ap (λ (m : Option ℕ). isBefore m ((c .before .before .before .before .before .before .before .before .before .before .before .before .before .before .before .before .before .before .before .before .before .before .before .before .before .before .before) .args .commit .0)) (sym (c .before .before .before .before .latest-lsn .ensures)) ∙ sym (c .before .before .before .is-next .ensures) ∙ not-false _ (c .before .before .if6 .left)) (sym (c .before .is-zero .ensures) ∙ c .if7 .taken))
 
 with-pending-commit-requires : tie.Need-with-pending-commit-requires
 with-pending-commit-requires c κs = search needs
@@ -133,7 +135,7 @@ same-length-9 : tie.Need-same-length-9
 same-length-9 c = search needs
 
 returns-9 : tie.Need-returns-9
-returns-9 c = changed ((c .before .before .before .before .before .before .before .before .before .before .before .before .before .before .before .before .before .before .before .before .before .before .before .before .before .before .before .before .before .before .before .before) .args .volumes .now) _ _ _ (prepare-done ((c .before .before .before .before .before .before .before .before .before .before .before .before .before .before .before .before .before .before .before .before .before .before .before .before .before .before .before .before .before .before .before .before) .args .volumes .now) ((c .before .before .before .before .before .before .before .before .before .before .before .before .before .before .before .before .before .before .before .before .before .before .before .before .before .before .before .before .before .before .before .before) .args .commits .now) ((c .before .before .before .before .before .before .before .before .before .before .before .before .before .before .before .before .before .before .before .before .before .before .before .before .before .before .before .before .before .before .before .before) .args .vid) (asked (c .before .before .before .before .before .before .before .before .before .before .before .before .before .before .before .before .before .before .before .before .before .before .before .before .before .before .before .before .before .before .before .before)) (sym (c .before .before .before .before .before .before .before .before .before .before .before .before .before .before .before .before .before .before .before .before .before .before .before .before .before .before .before .before .volumes-formed .ensures) ∙ not-false _ (c .before .before .before .before .before .before .before .before .before .before .before .before .before .before .before .before .before .before .before .before .before .before .before .before .before .before .before .if1 .left)) (sym (c .before .before .before .before .before .before .before .before .before .before .before .before .before .before .before .before .before .before .before .before .before .before .before .before .before .before .commits-formed .ensures) ∙ not-false _ (c .before .before .before .before .before .before .before .before .before .before .before .before .before .before .before .before .before .before .before .before .before .before .before .before .before .if2 .left)) (sym (c .before .before .before .before .before .before .before .before .before .before .before .before .before .before .before .before .before .before .before .before .before .before .before .before .both-count .ensures) ∙ not-false _ (c .before .before .before .before .before .before .before .before .before .before .before .before .before .before .before .before .before .before .before .before .before .before .before .if3 .left)) (volumeSays (c .before .before .before .before .before .before .before .before .before .before .before .before .before .before .before .before .volume-at .result)) (found-here ((c .before .before .before .before .before .before .before .before .before .before .before .before .before .before .before .before .before .before .before .before .before .before .before .before .before .before .before .before .before .before .before .before) .args .volumes .now) ((c .before .before .before .before .before .before .before .before .before .before .before .before .before .before .before .before .before .before .before .before .before .before .before .before .before .before .before .before .before .before .before .before) .args .vid) (sym (c .before .before .before .before .before .before .before .before .before .before .before .before .before .before .before .before .before .before .before .before .before .before .before .before .before .before .before .before .volumes-formed .ensures) ∙ not-false _ (c .before .before .before .before .before .before .before .before .before .before .before .before .before .before .before .before .before .before .before .before .before .before .before .before .before .before .before .if1 .left)) _ _ (c .before .before .before .before .before .before .before .before .before .before .before .before .before .before .before .before .before .before .before .before .before .find-volume .ensures .says) (c .before .before .before .before .before .before .before .before .before .before .before .before .before .before .before .before .before .before .before .i .given .1) (c .before .before .before .before .before .before .before .before .before .before .before .before .before .before .before .before .volume-at .result) (c .before .before .before .before .before .before .before .before .before .before .before .before .before .before .before .before .volume-at .ensures)) (sym (c .before .before .before .before .before .before .before .before .before .before .before .before .before .before .none-pending .ensures) ∙ not-false _ (c .before .before .before .before .before .before .before .before .before .before .before .before .before .if4 .left)) (ap (λ (m : Option ℕ). below m ((c .before .before .before .before .before .before .before .before .before .before .before .before .before .before .before .before .before .before .before .before .before .before .before .before .before .before .before .before .before .before .before .before) .args .local .0)) (sym (c .before .before .before .before .before .before .before .before .before .before .before .before .watermark-of .ensures)) ∙ sym (c .before .before .before .before .before .before .before .before .before .before .before .is-below .ensures) ∙ not-false _ (c .before .before .before .before .before .before .before .before .before .before .if5 .left)) (ap (λ (m : Option ℕ). isBefore m ((c .before .before .before .before .before .before .before .before .before .before .before .before .before .before .before .before .before .before .before .before .before .before .before .before .before .before .before .before .before .before .before .before) .args .commit .0)) (sym (c .before .before .before .before .before .before .before .before .before .latest-lsn .ensures)) ∙ sym (c .before .before .before .before .before .before .before .before .is-next .ensures) ∙ not-false _ (c .before .before .before .before .before .before .before .if6 .left)) (sym (c .before .before .before .before .before .before .is-zero .ensures) ∙ c .before .before .before .before .before .if7 .left) ∙ ap (λ (z : Volume). done (store volumeKey bytes z (volumesIn ((c .before .before .before .before .before .before .before .before .before .before .before .before .before .before .before .before .before .before .before .before .before .before .before .before .before .before .before .before .before .before .before .before) .args .volumes .now)))) (sym (ap volumeSays (c .before .before .before .with-pending-commit .ensures)))) (c .before .before .store-volume .ensures)
+returns-9 c = changed volumeBytes ((c .before .before .before .before .before .before .before .before .before .before .before .before .before .before .before .before .before .before .before .before .before .before .before .before .before .before .before .before .before .before .before .before) .args .volumes .now) _ _ _ (prepare-done ((c .before .before .before .before .before .before .before .before .before .before .before .before .before .before .before .before .before .before .before .before .before .before .before .before .before .before .before .before .before .before .before .before) .args .volumes .now) ((c .before .before .before .before .before .before .before .before .before .before .before .before .before .before .before .before .before .before .before .before .before .before .before .before .before .before .before .before .before .before .before .before) .args .commits .now) ((c .before .before .before .before .before .before .before .before .before .before .before .before .before .before .before .before .before .before .before .before .before .before .before .before .before .before .before .before .before .before .before .before) .args .vid) (asked (c .before .before .before .before .before .before .before .before .before .before .before .before .before .before .before .before .before .before .before .before .before .before .before .before .before .before .before .before .before .before .before .before)) (sym (c .before .before .before .before .before .before .before .before .before .before .before .before .before .before .before .before .before .before .before .before .before .before .before .before .before .before .before .before .volumes-formed .ensures) ∙ not-false _ (c .before .before .before .before .before .before .before .before .before .before .before .before .before .before .before .before .before .before .before .before .before .before .before .before .before .before .before .if1 .left)) (sym (c .before .before .before .before .before .before .before .before .before .before .before .before .before .before .before .before .before .before .before .before .before .before .before .before .before .before .commits-formed .ensures) ∙ not-false _ (c .before .before .before .before .before .before .before .before .before .before .before .before .before .before .before .before .before .before .before .before .before .before .before .before .before .if2 .left)) (sym (c .before .before .before .before .before .before .before .before .before .before .before .before .before .before .before .before .before .before .before .before .before .before .before .before .both-count .ensures) ∙ not-false _ (c .before .before .before .before .before .before .before .before .before .before .before .before .before .before .before .before .before .before .before .before .before .before .before .if3 .left)) (volumeSays (c .before .before .before .before .before .before .before .before .before .before .before .before .before .before .before .before .volume-at .result)) (found-here ((c .before .before .before .before .before .before .before .before .before .before .before .before .before .before .before .before .before .before .before .before .before .before .before .before .before .before .before .before .before .before .before .before) .args .volumes .now) ((c .before .before .before .before .before .before .before .before .before .before .before .before .before .before .before .before .before .before .before .before .before .before .before .before .before .before .before .before .before .before .before .before) .args .vid) (sym (c .before .before .before .before .before .before .before .before .before .before .before .before .before .before .before .before .before .before .before .before .before .before .before .before .before .before .before .before .volumes-formed .ensures) ∙ not-false _ (c .before .before .before .before .before .before .before .before .before .before .before .before .before .before .before .before .before .before .before .before .before .before .before .before .before .before .before .if1 .left)) _ _ (c .before .before .before .before .before .before .before .before .before .before .before .before .before .before .before .before .before .before .before .before .before .find-volume .ensures .says) (c .before .before .before .before .before .before .before .before .before .before .before .before .before .before .before .before .before .before .before .i .given .1) (c .before .before .before .before .before .before .before .before .before .before .before .before .before .before .before .before .volume-at .result) (c .before .before .before .before .before .before .before .before .before .before .before .before .before .before .before .before .volume-at .ensures)) (sym (c .before .before .before .before .before .before .before .before .before .before .before .before .before .before .none-pending .ensures) ∙ not-false _ (c .before .before .before .before .before .before .before .before .before .before .before .before .before .if4 .left)) (ap (λ (m : Option ℕ). below m ((c .before .before .before .before .before .before .before .before .before .before .before .before .before .before .before .before .before .before .before .before .before .before .before .before .before .before .before .before .before .before .before .before) .args .local .0)) (sym (c .before .before .before .before .before .before .before .before .before .before .before .before .watermark-of .ensures)) ∙ sym (c .before .before .before .before .before .before .before .before .before .before .before .is-below .ensures) ∙ not-false _ (c .before .before .before .before .before .before .before .before .before .before .if5 .left)) (ap (λ (m : Option ℕ). isBefore m ((c .before .before .before .before .before .before .before .before .before .before .before .before .before .before .before .before .before .before .before .before .before .before .before .before .before .before .before .before .before .before .before .before) .args .commit .0)) (sym (c .before .before .before .before .before .before .before .before .before .latest-lsn .ensures)) ∙ sym (c .before .before .before .before .before .before .before .before .is-next .ensures) ∙ not-false _ (c .before .before .before .before .before .before .before .if6 .left)) (sym (c .before .before .before .before .before .before .is-zero .ensures) ∙ c .before .before .before .before .before .if7 .left) ∙ ap (λ (z : Volume). done (store volumeKey bytes z (volumesIn ((c .before .before .before .before .before .before .before .before .before .before .before .before .before .before .before .before .before .before .before .before .before .before .before .before .before .before .before .before .before .before .before .before) .args .volumes .now)))) (sym (ap volumeSays (c .before .before .before .with-pending-commit .ensures)))) (c .before .before .store-volume .ensures)
 
 pub prepare-spec : {M : Type 1} → statement M
 prepare-spec =

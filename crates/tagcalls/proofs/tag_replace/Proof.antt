@@ -2,20 +2,22 @@
 use borrow.Author.Needs.{needs}
 use mathlib.Core.Path.{_≡_, sym, _∙_}
 use borrow.Author.Tests.{not-true, not-false}
-use Rattle.layout.proofs.LentLaws.{lent-no}
+use Rattle.layout.specs.Records.{tagBytes}
+use Rattle.layout.proofs.PlaceLaws.{id-form}
+use Rattle.layout.proofs.LentLaws.{lent-no, told-unchanged, told-changed}
 use mathlib.Core.Bool.{true}
 use lib.ListN.{getD}
 use mir.Val.{Fits}
 use mir.Syntax.{w8}
 use Rattle.rules.specs.Forms.{idForm}
 use Rattle.tagcalls.specs.Says.{taggedAnswer, earlier}
-use Rattle.tagcalls.proofs.Ends.{id-good, replace-no-name, replace-full, replace-is, unchanged, changed}
+use Rattle.tagcalls.proofs.Ends.{replace-no-name, replace-full, replace-is}
 use Rattle.tagcalls.proofs.tag_replace.Statement.{statement}
 use Rattle.tagcalls.proofs.tag_replace.Tie as tie
 
 -- the volume's identifier is in form
-vid-good : (a : tie.Start) → idForm (a .args .vid) ≡ true
-vid-good a = id-good (a .args .vid) (search needs) (λ j. let f : Fits w8 (getD (a .args .vid) j 0) = search needs in f .fits)
+vid-form : (a : tie.Start) → idForm (a .args .vid) ≡ true
+vid-form a = id-form (a .args .vid) (search needs) (λ j. let f : Fits w8 (getD (a .args .vid) j 0) = search needs in f .fits)
 
 tags-formed-requires : tie.Need-tags-formed-requires
 tags-formed-requires c κs = search needs
@@ -29,7 +31,7 @@ same-length c = search needs
 returns : tie.Need-returns
 returns c =
     let a = (c .before .before .before .before .before .before) in
-    unchanged (λ x. taggedAnswer (earlier x)) (λ p. p .1) (a .args .tags .now) _ 20 _ (lent-no _ _ (sym (c .before .before .tags-formed .ensures) ∙ not-true _ (c .before .if1 .taken))) (c .no-volume .ensures)
+    told-unchanged tagBytes (λ x. taggedAnswer (earlier x)) (λ p. p .1) (a .args .tags .now) _ 20 _ (lent-no _ _ (sym (c .before .before .tags-formed .ensures) ∙ not-true _ (c .before .if1 .taken))) (c .no-volume .ensures)
 
 is-name-requires : tie.Need-is-name-requires
 is-name-requires c κs = search needs
@@ -43,7 +45,7 @@ same-length-2 c = search needs
 returns-2 : tie.Need-returns-2
 returns-2 c =
     let a = (c .before .before .before .before .before .before .before .before) in
-    unchanged (λ x. taggedAnswer (earlier x)) (λ p. p .1) (a .args .tags .now) _ 1 _ (replace-no-name (a .args .tags .now) (a .args .name .now) (a .args .vid) (sym (c .before .before .before .before .tags-formed .ensures) ∙ not-false _ (c .before .before .before .if1 .left)) (sym (c .before .before .is-name .ensures) ∙ not-true _ (c .before .if2 .taken))) (c .no-volume2 .ensures)
+    told-unchanged tagBytes (λ x. taggedAnswer (earlier x)) (λ p. p .1) (a .args .tags .now) _ 1 _ (replace-no-name (a .args .tags .now) (a .args .name .now) (a .args .vid) (sym (c .before .before .before .before .tags-formed .ensures) ∙ not-false _ (c .before .before .before .if1 .left)) (sym (c .before .before .is-name .ensures) ∙ not-true _ (c .before .if2 .taken))) (c .no-volume2 .ensures)
 
 room-for-tag-requires : tie.Need-room-for-tag-requires
 room-for-tag-requires c κs = ((sym (c .before .before .before .before .tags-formed .ensures) ∙ not-false _ (c .before .before .before .if1 .left)), (sym (c .before .before .is-name .ensures) ∙ not-false _ (c .before .if2 .left)))
@@ -57,7 +59,7 @@ same-length-3 c = search needs
 returns-3 : tie.Need-returns-3
 returns-3 c =
     let a = (c .before .before .before .before .before .before .before .before .before .before .before) in
-    unchanged (λ x. taggedAnswer (earlier x)) (λ p. p .1) (a .args .tags .now) _ 19 _ (replace-full (a .args .tags .now) (a .args .name .now) (a .args .vid) (sym (c .before .before .before .before .before .before .before .tags-formed .ensures) ∙ not-false _ (c .before .before .before .before .before .before .if1 .left)) (sym (c .before .before .before .before .before .is-name .ensures) ∙ not-false _ (c .before .before .before .before .if2 .left)) (sym (c .before .before .room-for-tag .ensures (a .args .vid) (vid-good a)) ∙ not-true _ (c .before .if3 .taken))) (c .no-volume3 .ensures)
+    told-unchanged tagBytes (λ x. taggedAnswer (earlier x)) (λ p. p .1) (a .args .tags .now) _ 19 _ (replace-full (a .args .tags .now) (a .args .name .now) (a .args .vid) (sym (c .before .before .before .before .before .before .before .tags-formed .ensures) ∙ not-false _ (c .before .before .before .before .before .before .if1 .left)) (sym (c .before .before .before .before .before .is-name .ensures) ∙ not-false _ (c .before .before .before .before .if2 .left)) (sym (c .before .before .room-for-tag .ensures (a .args .vid) (vid-form a)) ∙ not-true _ (c .before .if3 .taken))) (c .no-volume3 .ensures)
 
 named-volume-requires : tie.Need-named-volume-requires
 named-volume-requires c κs = ((sym (c .before .before .before .before .before .before .before .tags-formed .ensures) ∙ not-false _ (c .before .before .before .before .before .before .if1 .left)), (sym (c .before .before .before .before .before .is-name .ensures) ∙ not-false _ (c .before .before .before .before .if2 .left)))
@@ -65,7 +67,7 @@ named-volume-requires c κs = ((sym (c .before .before .before .before .before .
 put-tag-requires : tie.Need-put-tag-requires
 put-tag-requires c κs =
     let a = (c .before .before .before .before .before .before .before .before .before .before .before .before .before) in
-    (((sym (c .before .before .before .before .before .before .before .before .before .tags-formed .ensures) ∙ not-false _ (c .before .before .before .before .before .before .before .before .if1 .left)), (sym (c .before .before .before .before .before .before .before .is-name .ensures) ∙ not-false _ (c .before .before .before .before .before .before .if2 .left))), (sym (c .before .before .before .before .room-for-tag .ensures (a .args .vid) (vid-good a)) ∙ not-false _ (c .before .before .before .if3 .left)))
+    (((sym (c .before .before .before .before .before .before .before .before .before .tags-formed .ensures) ∙ not-false _ (c .before .before .before .before .before .before .before .before .if1 .left)), (sym (c .before .before .before .before .before .before .before .is-name .ensures) ∙ not-false _ (c .before .before .before .before .before .before .if2 .left))), (sym (c .before .before .before .before .room-for-tag .ensures (a .args .vid) (vid-form a)) ∙ not-false _ (c .before .before .before .if3 .left)))
 
 same-length-4 : tie.Need-same-length-4
 same-length-4 c = search needs
@@ -73,7 +75,7 @@ same-length-4 c = search needs
 returns-4 : tie.Need-returns-4
 returns-4 c =
     let a = (c .before .before .before .before .before .before .before .before .before .before .before .before .before .before .before .before) in
-    changed (λ x. taggedAnswer (earlier x)) (λ p. p .1) (a .args .tags .now) _ _ _ _ (replace-is (a .args .tags .now) (a .args .name .now) (a .args .vid) (sym (c .before .before .before .before .before .before .before .before .before .before .before .before .tags-formed .ensures) ∙ not-false _ (c .before .before .before .before .before .before .before .before .before .before .before .if1 .left)) (sym (c .before .before .before .before .before .before .before .before .before .before .is-name .ensures) ∙ not-false _ (c .before .before .before .before .before .before .before .before .before .if2 .left)) (sym (c .before .before .before .before .before .before .before .room-for-tag .ensures (a .args .vid) (vid-good a)) ∙ not-false _ (c .before .before .before .before .before .before .if3 .left))) (c .before .before .before .before .named-volume .ensures) (c .before .before .put-tag .ensures)
+    told-changed tagBytes (λ x. taggedAnswer (earlier x)) (λ p. p .1) (a .args .tags .now) _ _ _ _ (replace-is (a .args .tags .now) (a .args .name .now) (a .args .vid) (sym (c .before .before .before .before .before .before .before .before .before .before .before .before .tags-formed .ensures) ∙ not-false _ (c .before .before .before .before .before .before .before .before .before .before .before .if1 .left)) (sym (c .before .before .before .before .before .before .before .before .before .before .is-name .ensures) ∙ not-false _ (c .before .before .before .before .before .before .before .before .before .if2 .left)) (sym (c .before .before .before .before .before .before .before .room-for-tag .ensures (a .args .vid) (vid-form a)) ∙ not-false _ (c .before .before .before .before .before .before .if3 .left))) (c .before .before .before .before .named-volume .ensures) (c .before .before .put-tag .ensures)
 
 pub tag-replace-spec : {M : Type 1} → statement M
 tag-replace-spec =

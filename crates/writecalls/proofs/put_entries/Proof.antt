@@ -4,7 +4,8 @@ use Rattle.rows.proofs.Rows.{formed-well}
 use Rattle.rows.proofs.Tables.{index}
 use Rattle.rules.specs.Write.{entriesOf}
 use Rattle.writecalls.specs.Written.{commitIn}
-use Rattle.writecalls.proofs.Rows.{is-form, set-normal, entry-rows, fresh-is, entries-form, rows-fit, rows-laid}
+use Rattle.rules.proofs.Write.{entries-form}
+use Rattle.writecalls.proofs.Rows.{is-form, set-normal, entry-rows, fresh-is, rows-fit, rows-laid}
 use borrow.Author.Needs.{needs}
 use Rattle.writecalls.proofs.put_entries.Statement.{statement}
 use Rattle.writecalls.proofs.put_entries.Tie as tie

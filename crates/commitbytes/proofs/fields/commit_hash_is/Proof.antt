@@ -10,7 +10,8 @@ use Rattle.octets.specs.Order.{lex, isEqual}
 use Rattle.octets.proofs.Places.{part-all}
 use Rattle.rules.specs.Records.{Hash}
 use Rattle.rules.specs.Push.{isHash}
-use Rattle.commitbytes.proofs.CommitLaws.{hash-none, hash-there, same-id}
+use Rattle.rules.proofs.Facts.{id-is}
+use Rattle.commitbytes.proofs.CommitLaws.{hash-none, hash-there}
 use Rattle.commitbytes.proofs.fields.commit_hash_is.Statement.{statement}
 use Rattle.commitbytes.proofs.fields.commit_hash_is.Tie as tie
 
@@ -42,7 +43,7 @@ returns-2 c =
     let a = c .before .before .before .before .before .args in
     c .same .ensures
     ∙ ap (λ (h : List ℕ). isEqual (lex (part (a .at + 30) 32 (a .s .now)) h)) (whole (c .before .before .before .before .before))
-    ∙ same-id (part (a .at + 30) 32 (a .s .now)) (a .t3)
+    ∙ id-is (part (a .at + 30) 32 (a .s .now)) (a .t3)
     ∙ sym (ap (λ (h : Option Hash). isHash h (a .t3)) (hash-there (a .s .now) (a .at) (λ e. c .before .before .if1 .left (c .before .before .before .load8 .ensures ∙ e))))
 
 pub commit-hash-is-spec : {M : Type 1} → statement M

@@ -12,7 +12,8 @@ use Rattle.rules.specs.Records.{Segment}
 use Rattle.rules.specs.Save.{hasSid}
 use Rattle.rules.specs.Tables.{sameId}
 use Rattle.segmentbytes.proofs.SegmentLaws.{segment-at}
-use Rattle.commitbytes.proofs.CommitLaws.{segment-none, segment-there, same-id}
+use Rattle.rules.proofs.Facts.{id-is}
+use Rattle.commitbytes.proofs.CommitLaws.{segment-none, segment-there}
 use Rattle.commitbytes.proofs.fields.commit_sid_is.Statement.{statement}
 use Rattle.commitbytes.proofs.fields.commit_sid_is.Tie as tie
 
@@ -44,7 +45,7 @@ returns-2 c =
     let a = c .before .before .before .before .before .args in
     c .same .ensures
     ∙ ap (λ (h : List ℕ). isEqual (lex h (part (a .at + 63) 16 (a .s .now)))) (whole (c .before .before .before .before .before))
-    ∙ same-id (a .t3) (part (a .at + 63) 16 (a .s .now))
+    ∙ id-is (a .t3) (part (a .at + 63) 16 (a .s .now))
     ∙ sym (ap (λ (x : Segment). sameId (a .t3) (x .sid)) (segment-at (a .s .now) (a .at + 63)))
     ∙ sym (ap (hasSid (a .t3)) (segment-there (a .s .now) (a .at) (λ e. c .before .before .if1 .left (c .before .before .before .load8 .ensures ∙ e))))
 
