@@ -7,18 +7,16 @@ use mathlib.Core.Option.{Option, none, some}
 use native.Mathlib.Omega.{arith}
 use borrow.Author.Tests.{lt-ltb}
 use lib.ListN.{length, getD}
-use Rattle.octets.specs.Bytes.{bytesOf, part, put, AreBytes}
+use Rattle.octets.specs.Bytes.{bytesOf, part, put}
 use Rattle.octets.proofs.Numbers.{length-bytesOf}
 use Rattle.octets.proofs.Places as P
-use Rattle.rules.specs.Records.{Id, Commit}
+use Rattle.rules.specs.Records.{Commit}
 use Rattle.rules.specs.Lists.{all}
-use Rattle.rules.specs.Forms.{bytesForm, idForm, pageForm, presentForm}
-use Rattle.rules.proofs.TableLaws.{and-fst}
+use Rattle.rules.specs.Forms.{bytesForm, idForm}
 use Rattle.volume.specs.declared.snapshot.Snapshot.{Snapshot}
 use Rattle.volume.specs.declared.snapshot.Head.{Head}
 use Rattle.volume.specs.Snapshots.{snapshotSays, laid, headOf, laidHead}
 use Rattle.layout.specs.Records.{commitBytes}
-use Rattle.entries.proofs.RowForms.{present-formed}
 use Rattle.arguments.specs.Snapshots.{snapshotIn, headSays}
 use Rattle.arguments.proofs.ArgLaws.{whole}
 use Rattle.arguments.proofs.SnapshotLaws.{head-says, arg-says}
@@ -30,10 +28,6 @@ use Rattle.callstep.specs.Steps.{shortly, commitHead}
 pub id-form : (b : ℕ) → b < 256 → idForm (idOf b) ≡ true
 unfolding idOf bytesForm all
 id-form b h = rw (lt-ltb b 256 h)
-
-pub id-good : (x : Id) → AreBytes x → length x ≡ 16 → idForm x ≡ true
-unfolding presentForm
-id-good x b l = and-fst (idForm x) (pageForm 1) (present-formed x 1 b l (omega arith) (omega arith))
 
 -- ---- slots
 

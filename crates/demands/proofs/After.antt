@@ -30,7 +30,7 @@ use Rattle.rows.proofs.Rows.{Laid, formed-two, laid-holds}
 use Rattle.rows.proofs.Tables as Layouts
 use Rattle.arguments.specs.Snapshots.{snapshotIn}
 use Rattle.writecalls.specs.Written.{logsIn}
-use Rattle.opencalls.proofs.Ends.{id-good}
+use Rattle.layout.proofs.PlaceLaws.{id-form}
 use Rattle.savecalls.specs.Saving.{Saved, saveOk, argumentsIn, saveOn, Leaves}
 use Rattle.savecalls.proofs.Forms.{Formed, formed}
 use Rattle.savecalls.proofs.Ends.{not-formed, bad-arguments, in-rule}
@@ -79,7 +79,7 @@ answered (done x) h e = (x, refl)
 -- what the types of a count and of an identifier ensure
 pub typed-by : (count : ℕ) (sid : Id) → count ≤ 4294967295 → length sid ≡ 16 → AreBytes sid → countForm count && idForm sid ≡ true
 unfolding countForm lastPage
-typed-by count sid c l b = and-both (le-leb count 4294967295 c) (id-good sid l b)
+typed-by count sid c l b = and-both (le-leb count 4294967295 c) (id-form sid l b)
 
 -- ---- the tables that the bytes hold then
 

@@ -23,7 +23,8 @@ use Rattle.rules.specs.Records.{Pages, Segment}
 use Rattle.rules.specs.Pages.{minus}
 use Rattle.rules.specs.Write.{pagesOf}
 use Rattle.rules.proofs.TableLaws.{and-fst, and-snd, and-both, clash}
-use Rattle.rules.proofs.PageLaws.{bit-zero, mask-below, form-rising, holds-empty, holds-minus}
+use Rattle.pageset.proofs.BitLaws.{bit-none}
+use Rattle.rules.proofs.PageLaws.{mask-below, form-rising, holds-empty, holds-minus}
 use Rattle.rules.proofs.PageCounts.{minus-normal}
 use Rattle.table.specs.Table.{countOf}
 use Rattle.layout.specs.Values.{windowBytes, setBytes}
@@ -66,7 +67,7 @@ above-last (w ∷ ws) n lo hi e l h q a b =
 
 none-held : (ws : Pages) (p : ℕ) → maskAt ws (p / 64) ≡ 0 → holds ws p ≡ false
 unfolding holds
-none-held ws p z = rw z (bit-zero (p % 64))
+none-held ws p z = rw z (bit-none (p % 64))
 
 module _ (s : PageSet) (e : normal s ≡ true) (u : Pages) where
   rest-is : IsSet (λ p. member s p && not (holds u p)) (setLaid (minus (shown s) u))

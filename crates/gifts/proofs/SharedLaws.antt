@@ -13,10 +13,10 @@ use lib.Seq.{drop-cons}
 use Rattle.octets.specs.Bytes.{be, part}
 use Rattle.pageset.specs.declared.Window.{Window}
 use Rattle.pageset.specs.Sets.{bit, maskAt, holds, rising, zeroWindow}
-use Rattle.pageset.proofs.BitLaws.{bit-and}
+use Rattle.pageset.proofs.BitLaws.{bit-and, bit-none}
 use Rattle.rules.specs.Records.{Pages}
 use Rattle.rules.proofs.TableLaws.{cases, and-fst, and-snd, and-both}
-use Rattle.rules.proofs.PageLaws.{bit-zero, mask-below, rising-weaken, holds-empty}
+use Rattle.rules.proofs.PageLaws.{mask-below, rising-weaken, holds-empty}
 use Rattle.layout.specs.Values.{windowBytes}
 use Rattle.setbytes.specs.Laid.{windowsAt}
 use Rattle.setbytes.proofs.SetLaws.{length-windows, window-nth}
@@ -32,7 +32,7 @@ other w xs p e = rw e
 -- below the first window there is no page
 before : (lo : ℕ) (xs : Pages) (p : ℕ) → rising lo xs ≡ true → p / 64 < lo → holds xs p ≡ false
 unfolding holds
-before lo xs p up h = rw (mask-below lo (p / 64) xs h up) (bit-zero (p % 64))
+before lo xs p up h = rw (mask-below lo (p / 64) xs h up) (bit-none (p % 64))
 
 from-first : (w : Window) (xs : Pages) → rising 0 (w ∷ xs) ≡ true → (rising (w .index) (w ∷ xs) ≡ true) × (rising (w .index + 1) xs ≡ true)
 unfolding rising
@@ -65,7 +65,7 @@ module _ (w v : Window) (xs ys : Pages) (ux : rising 0 (w ∷ xs) ≡ true) (uy 
       cases (eqb (w .index) (p / 64))
       (λ e. let i = eqb-true (w .index) (p / 64) e in
       let f : eqb (v .index) (p / 64) ≡ true = rw h at e in
-      rw (e, f) (sym (bit-and (w .mask) (v .mask) (p % 64)) ∙ ap (λ (k : ℕ). bit k (p % 64)) m ∙ bit-zero (p % 64) ∙ sym (neither (holds xs p) (holds ys p) (before (w .index + 1) xs p (from-first w xs ux .1) (omega arith)))))
+      rw (e, f) (sym (bit-and (w .mask) (v .mask) (p % 64)) ∙ ap (λ (k : ℕ). bit k (p % 64)) m ∙ bit-none (p % 64) ∙ sym (neither (holds xs p) (holds ys p) (before (w .index + 1) xs p (from-first w xs ux .1) (omega arith)))))
       (λ e. let f : eqb (v .index) (p / 64) ≡ false = rw h at e in rw (e, f))
 
 -- ---- windows in bytes

@@ -17,7 +17,8 @@ use Rattle.layout.specs.Records.{volumeBytes, tagBytes, commitBytes, checkpoint
 use Rattle.layout.specs.Lent.{after}
 use Rattle.arguments.specs.declared.Reply.{Reply}
 use Rattle.arguments.specs.Replies.{none-under, given, value, valueOr, numberedReply}
-use Rattle.arguments.specs.Sets.{sized, SetLeft, SetLeftOr22, LeavesSet, LeavesSetOr22, LeavesCut}
+use Rattle.layout.specs.Lent.{sized}
+use Rattle.arguments.specs.Sets.{SetLeft, SetLeftOr22, LeavesSet, LeavesSetOr22, LeavesCut}
 use Rattle.resultlists.specs.Lists.{listLeft}
 use Rattle.tagcalls.specs.Says.{earlier}
 use Rattle.opencalls.specs.Opens as Opens

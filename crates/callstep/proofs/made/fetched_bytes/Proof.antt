@@ -12,7 +12,7 @@ use Rattle.layout.specs.Codecs.{Holds}
 use Rattle.layout.specs.Records.{commitBytes}
 use Rattle.setbytes.proofs.LaidLaws.{shown-form}
 use Rattle.callstep.specs.Steps.{fetched}
-use Rattle.callstep.proofs.Values.{id-good}
+use Rattle.layout.proofs.PlaceLaws.{id-form}
 use Rattle.callstep.proofs.Fetched.{fetched-held, made-laid, made-bytes}
 use borrow.Author.Needs.{needs}
 use Rattle.callstep.proofs.made.fetched_bytes.Statement.{statement}
@@ -26,10 +26,10 @@ holds c =
     let l : Fits w64 (c .args .lsn .0) = search needs in
     let n : Fits w32 (c .args .count .0) = search needs in
     fetched-held (c .args .log) (c .args .lsn .0) (c .args .count .0) (c .args .sid) (shown (c .args .set))
-    (id-good (c .args .log) (λ j. let f : Fits w8 (getD (c .args .log) j 0) = search needs in f .fits) (search needs))
+    (id-form (c .args .log) (search needs) (λ j. let f : Fits w8 (getD (c .args .log) j 0) = search needs in f .fits))
     (let h = l .fits in omega arith)
     (let h = n .fits in omega arith)
-    (id-good (c .args .sid) (λ j. let f : Fits w8 (getD (c .args .sid) j 0) = search needs in f .fits) (search needs))
+    (id-form (c .args .sid) (search needs) (λ j. let f : Fits w8 (getD (c .args .sid) j 0) = search needs in f .fits))
     (shown-form (c .args .set) (c .pre))
 
 fetched-commit-requires : tie.Need-fetched-commit-requires

@@ -4,7 +4,7 @@ use Rattle.layout.specs.Records.{commitBytes}
 use Rattle.rules.specs.Reads.{commitRead}
 use Rattle.layout.specs.Tables.{commitsIn, commitsOk}
 use Rattle.layout.specs.Lent.{lent}
-use Rattle.commitcalls.specs.Says.{sized}
+use Rattle.layout.specs.Lent.{sized}
 use Rattle.refusals.proofs.Laws.{maybe-left}
 use Rattle.refusals.proofs.commitcall.commit_read.Statement.{statement}
 use Rattle.refusals.proofs.commitcall.commit_read.Tie as tie

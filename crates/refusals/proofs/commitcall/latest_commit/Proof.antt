@@ -4,7 +4,7 @@ use Rattle.layout.specs.Records.{commitBytes}
 use Rattle.layout.specs.Tables.{commitsIn, commitsOk}
 use Rattle.rules.specs.Reads.{latestCommitRead}
 use Rattle.layout.specs.Lent.{lent}
-use Rattle.commitcalls.specs.Says.{sized}
+use Rattle.layout.specs.Lent.{sized}
 use Rattle.refusals.proofs.Laws.{maybe-left}
 use Rattle.refusals.proofs.commitcall.latest_commit.Statement.{statement}
 use Rattle.refusals.proofs.commitcall.latest_commit.Tie as tie

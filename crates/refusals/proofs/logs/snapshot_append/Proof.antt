@@ -2,7 +2,7 @@
 use borrow.Author.Needs.{needs}
 use Rattle.layout.specs.Values.{snapshotBytes}
 use Rattle.arguments.specs.Snapshots.{appendIn}
-use Rattle.arguments.specs.Sets.{sized}
+use Rattle.layout.specs.Lent.{sized}
 use Rattle.refusals.proofs.Laws.{value-left}
 use Rattle.refusals.proofs.logs.snapshot_append.Statement.{statement}
 use Rattle.refusals.proofs.logs.snapshot_append.Tie as tie

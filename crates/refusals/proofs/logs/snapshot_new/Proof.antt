@@ -1,7 +1,7 @@
 -- Where the answer is a refusal, the contract has the place as it was.
 use borrow.Author.Needs.{needs}
 use Rattle.layout.specs.Values.{snapshotBytes}
-use Rattle.arguments.specs.Sets.{sized}
+use Rattle.layout.specs.Lent.{sized}
 use Rattle.rules.specs.Arguments.{snapshotNew}
 use Rattle.refusals.proofs.Laws.{value-left}
 use Rattle.refusals.proofs.logs.snapshot_new.Statement.{statement}

@@ -3,7 +3,7 @@ use borrow.Author.Needs.{needs}
 use Rattle.layout.specs.Values.{partBytes}
 use Rattle.frames.specs.Rules.{frameRule}
 use Rattle.segmentargs.specs.Segments.{segmentArg}
-use Rattle.arguments.specs.Sets.{sized}
+use Rattle.layout.specs.Lent.{sized}
 use Rattle.refusals.proofs.Laws.{maybe-left}
 use Rattle.refusals.proofs.segments.frame_of_page.Statement.{statement}
 use Rattle.refusals.proofs.segments.frame_of_page.Tie as tie

@@ -4,7 +4,7 @@ use Rattle.layout.specs.Values.{partBytes}
 use Rattle.core.specs.Answers.{_>>=_}
 use Rattle.rules.specs.Frames.{joinedPart}
 use Rattle.segmentargs.specs.Segments.{rangeArg, touchRule}
-use Rattle.arguments.specs.Sets.{sized}
+use Rattle.layout.specs.Lent.{sized}
 use Rattle.refusals.proofs.Laws.{maybe-left}
 use Rattle.refusals.proofs.segments.join.Statement.{statement}
 use Rattle.refusals.proofs.segments.join.Tie as tie
