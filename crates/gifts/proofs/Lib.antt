@@ -2,7 +2,5 @@
 pub mod ApartLaws
 pub mod PathLaws
 pub mod SetLaws
-pub mod SharedLaws
 pub mod StepLaws
-pub mod TakenLaws
 pub mod WalkLaws

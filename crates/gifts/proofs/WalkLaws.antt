@@ -7,7 +7,6 @@ use mathlib.Core.Option.{Option, none, some}
 use mathlib.Core.Bool.{true, false}
 use native.Mathlib.Omega.{arith}
 use lib.ListN.{length, drop, length-map}
-use Rattle.pageset.specs.declared.PageSet.{PageSet}
 use Rattle.pageset.specs.Sets.{shown, normal, normalForm}
 use Rattle.rules.specs.Lists.{isSome}
 use Rattle.rules.specs.Records.{Pages, Segment, Commit, Snapshot}
@@ -27,10 +26,7 @@ use Rattle.commits.specs.declared.Place.the-variants.{At, Missing}
 use Rattle.gifts.specs.Paths.{placesIn, placeAt, Inside, commitsAt, PathOf, before}
 use Rattle.gifts.specs.Steps.{stepFrom, segmentOf, itemAt, itemsFrom}
 use Rattle.gifts.specs.declared.Step.{Step}
-use Rattle.gifts.specs.declared.Taken.{Taken}
-use Rattle.gifts.specs.Taken.{Takes, Joined}
-use Rattle.gifts.proofs.SetLaws.{row-normal, notTaken-normal, minus-none, is-empty, not-empty}
-use Rattle.gifts.proofs.TakenLaws.{takes-more}
+use Rattle.gifts.proofs.SetLaws.{row-normal, notTaken-normal, minus-none}
 use Rattle.gifts.proofs.StepLaws.{place-left, place-few, place-below, place-none, before-next, step-end, step-here, step-on}
 
 -- ---- items
@@ -157,29 +153,6 @@ module _ (t ps : List ℕ) (ok : commitsOk t ≡ true) (inside : Inside t ps) (c
 
     pub step-none : s .at ≡ Missing → itemsFrom t count ps k ≡ []
     step-none e = none-by (length ps) k (omega arith) (ap (λ (x : Step). x .at) (sym r) ∙ e)
-
-  -- a turn of a walk that holds what was taken: number k and its gift
-  module _ (k i : ℕ) (e : placeAt k ps ≡ At i) (g : PageSet) (r : g ≡ setLaid (gave k i)) where
-    size : g .len ≡ length (gave k i)
-    size = ap (λ (s : PageSet). s .len) r
-
-    pub turn-below : i < countOf t
-    turn-below = place-below (countOf t) k i ps (inside .below) e
-
-    pub turn-few : k < 524280
-    turn-few = omega (arith, place-few k i ps e, inside .few)
-
-    pub turn-normal : normal g ≡ true
-    turn-normal = ap (λ (s : PageSet). normal s) r ∙ laid-normal (gave k i) (gave-normal k i turn-below)
-
-    pub turn-takes : (x y : Taken) → Takes count (commitsAt t ps) k x → Joined x k g y → Takes count (commitsAt t ps) (k + 1) y
-    turn-takes x y h j = takes-more count (commitsAt t ps) k x h (commitAt t i) (row-normal t ok i turn-below) (before-next t ps k i e) g r y j
-
-    pub turn-item : (g .len ≡ 0 → ⊥) → Stepped k (record { at = At i; next = k + 1; gift = g }) i
-    turn-item n = subst (λ (s : PageSet). Stepped k (record { at = At i; next = k + 1; gift = s }) i) (sym r) (given k i e (not-empty (gave k i) (λ z. n (size ∙ z))))
-
-    pub turn-none : g .len ≡ 0 → itemsFrom t count ps k ≡ itemsFrom t count ps (k + 1)
-    turn-none z = skips k i e (is-empty (gave k i) (sym size ∙ z))
 
 -- ---- the whole walk
 

@@ -6,41 +6,33 @@ use commits::has_segment_at;
 use commits::row;
 use core::page_count::PageCount;
 use octets::load32;
-use octets::load64;
 use pageset::PageSet;
 use pageset::sets;
 use paths::Path;
 use paths::place_at;
 use setbytes::count_read;
 use setbytes::set_read;
-use setbytes::set_write;
 ghost use mathlib.Core.Path.{_≡_};
-ghost use mathlib.Core.Bool.{true, false};
-ghost use Prim.Native.Nat.{_+_, _*_, _<_, _≤_};
+ghost use mathlib.Core.Bool.{true};
+ghost use Prim.Native.Nat.{_+_, _<_, _≤_};
 ghost use lib.ListN.{length, drop};
 ghost use Rattle.table.specs.Table.{countOf};
-ghost use Rattle.pageset.specs.Sets.{shown, rising, normal};
+ghost use Rattle.pageset.specs.Sets.{shown, normal};
 ghost use Rattle.rules.specs.Pages.{minus, truncated};
 ghost use Rattle.rules.specs.Write.{pagesOf};
 ghost use Rattle.rules.specs.Walk.{notTaken, gift as giftOf};
 ghost use Rattle.layout.specs.Tables.{commitsOk};
-ghost use Rattle.setbytes.specs.Laid.{windowsAt, setLaid};
+ghost use Rattle.setbytes.specs.Laid.{setLaid};
 ghost use Rattle.commits.specs.Places.{commitAt};
 ghost use Rattle.gifts.specs.Paths.{placesIn, Inside, commitsAt, before};
 ghost use Rattle.gifts.specs.Steps.{stepFrom};
-ghost use Rattle.gifts.specs.Taken.{Clear, NoneShared, noneTaken, Takes, Joined};
+ghost use Rattle.gifts.specs.Taken.{Clear};
 
 // What a step of the walk finds: where the next commit that gets pages stands, the number of the commit after it on the path, and its pages; or none.
 pub struct Step {
     pub at: Place,
     pub next: usize,
     pub gift: PageSet,
-}
-
-// The pages, up to the page count, that the path's first `upto` commits hold.
-pub struct Taken {
-    pub upto: usize,
-    pub set: PageSet,
 }
 
 // The pages of record i: none where its segment is missing.
@@ -73,51 +65,6 @@ fn apart(commits: &[u8], i: usize, lo: u32, hi: u32) -> bool
     load32(commits, at + 1 + (n - 1) * 12) < lo
 }
 
-// Whether n windows from byte 1 of a set's bytes on share a page with m windows from a place on. Both rise, and are walked together, the lower index first.
-fn shares(form: &[u8], n: usize, commits: &[u8], at: usize, m: usize) -> bool
-    requires { ⌜ (1 + n * 12 ≤ length (now form)) × (at + m * 12 ≤ length (now commits)) × (n ≤ 32) × (m ≤ 32) ⌝ }
-    requires { ⌜ (rising 0 (windowsAt n 1 (now form)) ≡ true) × (rising 0 (windowsAt m at (now commits)) ≡ true) ⌝ }
-    ensures { λ r. ⌜ (r ≡ false → NoneShared (windowsAt n 1 (now (form .entry))) (windowsAt m at (now (commits .entry)))) ⌝ }
-{
-    let mut i: usize = 0;
-    let mut j: usize = 0;
-    while i < n {
-        if m <= j {
-            return false;
-        }
-        let x = load32(form, 1 + i * 12);
-        let y = load32(commits, at + j * 12);
-        if x < y {
-            i += 1;
-        } else {
-            if y < x {
-                j += 1;
-            } else {
-                if load64(form, 1 + i * 12 + 4) & load64(commits, at + j * 12 + 4) != 0 {
-                    return true;
-                }
-                i += 1;
-                j += 1;
-            }
-        }
-    }
-    false
-}
-
-// Whether the pages of record i share one with the n windows of a set's bytes.
-fn meets(form: &[u8], n: usize, commits: &[u8], i: usize) -> bool
-    requires { ⌜ (commitsOk (now commits) ≡ true) × (i < countOf (now commits)) ⌝ }
-    requires { ⌜ (1 + n * 12 ≤ length (now form)) × (n ≤ 32) × (rising 0 (windowsAt n 1 (now form)) ≡ true) ⌝ }
-    ensures { λ r. ⌜ (r ≡ false → NoneShared (windowsAt n 1 (now (form .entry))) (pagesOf (commitAt (now (commits .entry)) i .segment))) ⌝ }
-{
-    if !has_segment_at(commits, i) {
-        return false;
-    }
-    let at = row(commits, i) + 79;
-    let m = count_read(commits, at, 32);
-    shares(form, n, commits, at + 1, m)
-}
-
 // The pages of a that b has not.
 fn without(a: PageSet, b: PageSet) -> PageSet
     requires { ⌜ (normal a ≡ true) × (normal b ≡ true) ⌝ }
@@ -127,30 +74,20 @@ fn without(a: PageSet, b: PageSet) -> PageSet
     both.left
 }
 
-// The pages of a set up to a page count: all of them where its last window lies below the count's.
+// The pages of a set up to a page count.
 fn up_to(s: PageSet, count: PageCount) -> PageSet
     requires { ⌜ normal s ≡ true ⌝ }
     ensures { λ r. ⌜ r ≡ setLaid (truncated (shown s) (count .0)) ⌝ }
 {
-    let n = s.len;
-    if n == 0 {
-        return s;
-    }
-    let last = s.windows[n - 1];
-    if last.index < count.0 / 64 {
-        return s;
-    }
     sets::truncate(s, count)
 }
 
-// The pages of a set that none of n commits of the path holds, from number `from` on. What is left is held in bytes beside the set, so that a commit that shares no page with it is passed by where it stands.
+// The pages of a set that none of n commits of the path holds, from number `from` on. A commit whose windows are seen to lie apart from what is left is passed by.
 fn not_taken(commits: &[u8], path: Path, from: usize, n: usize, s: PageSet) -> PageSet
     requires { ⌜ (commitsOk (now commits) ≡ true) × Inside (now commits) (placesIn (path .runs)) × (normal s ≡ true) × (from + n ≤ length (placesIn (path .runs))) ⌝ }
     ensures { λ r. ⌜ r ≡ setLaid (notTaken (shown s) (before n (commitsAt (now (commits .entry)) (drop from (placesIn (path .runs)))))) ⌝ }
 {
     let mut left = s;
-    let mut form = [0u8; 385];
-    set_write(&mut form, 0, s);
     let mut k: usize = 0;
     while k < n {
         let len = left.len;
@@ -164,67 +101,19 @@ fn not_taken(commits: &[u8], path: Path, from: usize, n: usize, s: PageSet) -> P
         let first = left.windows[0];
         let last = left.windows[len - 1];
         if !apart(commits, i, first.index, last.index) {
-            if meets(&form, len, commits, i) {
-                left = without(left, pages_at(commits, i));
-                set_write(&mut form, 0, left);
-            }
+            left = without(left, pages_at(commits, i));
         }
     }
     left
 }
 
-// What the commit in record i gets, which is the path's commit of number k: one cut by what is held as taken, and then by each commit after those.
-pub fn gift_of(
-    commits: &[u8],
-    path: Path,
-    count: PageCount,
-    taken: Taken,
-    k: usize,
-    i: usize,
-) -> PageSet
+// What the commit in record i gets, which is the path's commit of number k.
+fn gift_of(commits: &[u8], path: Path, count: PageCount, k: usize, i: usize) -> PageSet
     requires { ⌜ (commitsOk (now commits) ≡ true) × Inside (now commits) (placesIn (path .runs)) × (i < countOf (now commits)) × (k ≤ length (placesIn (path .runs))) ⌝ }
-    requires { ⌜ Takes (count .0) (commitsAt (now commits) (placesIn (path .runs))) k taken ⌝ }
     ensures { λ r. ⌜ r ≡ setLaid (giftOf (count .0) (before k (commitsAt (now (commits .entry)) (placesIn (path .runs)))) (commitAt (now (commits .entry)) i)) ⌝ }
 {
     let pages = up_to(pages_at(commits, i), count);
-    let held = taken.set;
-    let left = without(pages, held);
-    let from = taken.upto;
-    if from == k {
-        return left;
-    }
-    not_taken(commits, path, from, k - from, left)
-}
-
-// What is taken before the first commit.
-pub fn none_taken() -> Taken
-    ensures { λ r. ⌜ r ≡ noneTaken ⌝ }
-{
-    let set = sets::empty();
-    Taken { upto: 0, set }
-}
-
-// What is taken with the gift of number k, if the pages of all commits before it are held; nothing is added where they then need over 32 windows.
-pub fn taken_with(taken: Taken, k: usize, gift: PageSet) -> Taken
-    requires { ⌜ (normal (taken .set) ≡ true) × (normal gift ≡ true) × (k < 524280) ⌝ }
-    ensures { λ r. ⌜ Joined taken k gift r ⌝ }
-{
-    if taken.upto != k {
-        return taken;
-    }
-    let held = taken.set;
-    if gift.len == 0 {
-        return Taken {
-            upto: k + 1,
-            set: held,
-        };
-    }
-    let both = sets::union(held, gift);
-    if both.code != 0 {
-        return taken;
-    }
-    let set = both.set;
-    Taken { upto: k + 1, set }
+    not_taken(commits, path, 0, k, pages)
 }
 
 // The next commit of the path, from number `from` on, that gets pages.
@@ -242,7 +131,7 @@ pub fn next_gift(commits: &[u8], path: Path, count: PageCount, from: usize) -> S
                 gift: none,
             };
         };
-        let gift = gift_of(commits, path, count, none_taken(), k, i);
+        let gift = gift_of(commits, path, count, k, i);
         k += 1;
         if gift.len != 0 {
             return Step {

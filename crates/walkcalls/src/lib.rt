@@ -6,13 +6,10 @@ use commits::commits_formed;
 use commits::lsn_at;
 use commits::row;
 use core::page_count::PageCount;
-use gifts::gift_of;
-use gifts::none_taken;
+use gifts::next_gift;
 use gifts::paths::Path;
 use gifts::paths::at_most;
 use gifts::paths::path_of;
-use gifts::paths::place_at;
-use gifts::taken_with;
 use layout::SEGMENT;
 use octets::store64;
 use pageset::PageSet;
@@ -62,17 +59,14 @@ fn count_items(commits: &[u8], path: Path, count: PageCount) -> usize
 {
     let mut k: usize = 0;
     let mut n: usize = 0;
-    let mut taken = none_taken();
     loop {
-        let Place::At(i) = place_at(path, k) else {
+        let step = next_gift(commits, path, count, k);
+        let at = step.at;
+        let Place::At(_) = at else {
             return n;
         };
-        let gift = gift_of(commits, path, count, taken, k, i);
-        taken = taken_with(taken, k, gift);
-        k += 1;
-        if gift.len != 0 {
-            n += 1;
-        }
+        n += 1;
+        k = step.next;
     }
 }
 
@@ -96,18 +90,16 @@ fn put_items(commits: &[u8], path: Path, count: PageCount, list: &mut [u8]) -> u
 {
     let mut k: usize = 0;
     let mut n: usize = 0;
-    let mut taken = none_taken();
     loop {
-        let Place::At(i) = place_at(path, k) else {
+        let step = next_gift(commits, path, count, k);
+        let at = step.at;
+        let Place::At(i) = at else {
             return n;
         };
-        let gift = gift_of(commits, path, count, taken, k, i);
-        taken = taken_with(taken, k, gift);
-        k += 1;
-        if gift.len != 0 {
-            put_item(list, n * ITEM, commits, i, gift);
-            n += 1;
-        }
+        let gift = step.gift;
+        put_item(list, n * ITEM, commits, i, gift);
+        n += 1;
+        k = step.next;
     }
 }
 

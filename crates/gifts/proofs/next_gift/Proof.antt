@@ -1,6 +1,6 @@
 -- The step from `from` on is that from k on. Without a place it is the end; an empty gift goes on to the next number. The measure is the commits that are left.
 use Prim.Native.Nat.{_+_, _-_}
-use mathlib.Core.Path.{_≡_, refl, sym, ap, _∙_, subst}
+use mathlib.Core.Path.{_≡_, refl, sym, ap, _∙_}
 use native.Mathlib.Omega.{arith}
 use borrow.Author.Needs.{needs}
 use lib.ListN.{length}
@@ -9,13 +9,10 @@ use Rattle.pageset.specs.declared.PageSet.{PageSet}
 use Rattle.rules.specs.Walk.{gift}
 use Rattle.commits.specs.Places.{commitAt}
 use Rattle.commits.specs.declared.Place.the-variants.{At, Missing}
-use Rattle.gifts.specs.declared.Step.{Step}
 use Rattle.gifts.specs.Paths.{placesIn, commitsAt, before}
 use Rattle.gifts.specs.Steps.{stepFrom}
-use Rattle.gifts.specs.Taken.{Takes}
 use Rattle.gifts.proofs.SetLaws.{is-empty, not-empty}
 use Rattle.gifts.proofs.StepLaws.{place-few, place-below, step-end, step-here, step-on}
-use Rattle.gifts.proofs.TakenLaws.{takes-none}
 use Rattle.gifts.proofs.next_gift.Statement.{statement}
 use Rattle.gifts.proofs.next_gift.Tie as tie
 
@@ -42,50 +39,26 @@ empty-requires c κs = search needs
 
 returns : tie.Need-returns Inv-loop μ-loop
 returns c =
-    let a = c .before .before .before .before .before .before in
-    ap {B = Step} (λ (x : PageSet). record { at = Missing; next = c .before .before .before .before .loop .k; gift = x }) (c .empty .ensures)
-    ∙ sym (c .before .before .before .before .loop .inv ∙ step-end (a .args .commits .now) (placesIn (a .args .path .runs)) (a .args .count .0) (c .before .before .before .before .loop .k) (sym (c .before .before .before .place-at .ensures) ∙ (c .before .enum-told .given .1)))
-
-none-taken-requires : tie.Need-none-taken-requires Inv-loop μ-loop
-none-taken-requires c κs = search needs
+    ap (λ (x : PageSet). record { at = Missing; next = (c .before .before .before .before .loop .k); gift = x }) (c .empty .ensures)
+    ∙ sym (c .before .before .before .before .loop .inv ∙ step-end ((c .before .before .before .before .before .before) .args .commits .now) (placesIn ((c .before .before .before .before .before .before) .args .path .runs)) ((c .before .before .before .before .before .before) .args .count .0) (c .before .before .before .before .loop .k) (sym (c .before .before .before .place-at .ensures) ∙ (c .before .enum-told .given .1)))
 
 gift-of-requires : tie.Need-gift-of-requires Inv-loop μ-loop
-gift-of-requires c κs =
-    let a = c .before .before .before .before .before .before .before in
-    let ps = placesIn (a .args .path .runs) in
-    let e = sym (c .before .before .before .before .place-at .ensures) ∙ (c .before .before .i .given .1) in (
-      (a .pre .0, a .pre .1, place-below (countOf (a .args .commits .now)) (c .before .before .before .before .before .loop .k) (c .before .before .i .given .0 .0) ps (a .pre .1 .below) e, omega (arith, place-few (c .before .before .before .before .before .loop .k) (c .before .before .i .given .0 .0) ps e)),
-      subst (Takes (a .args .count .0) (commitsAt (a .args .commits .now) ps) (c .before .before .before .before .before .loop .k)) (sym (c .none-taken .ensures)) (takes-none (a .args .count .0) (commitsAt (a .args .commits .now) ps) (c .before .before .before .before .before .loop .k)),
-    )
+gift-of-requires c κs = ((c .before .before .before .before .before .before) .pre .0, ((c .before .before .before .before .before .before) .pre .1), place-below (countOf ((c .before .before .before .before .before .before) .args .commits .now)) (c .before .before .before .before .loop .k) (c .before .i .given .0 .0) (placesIn ((c .before .before .before .before .before .before) .args .path .runs)) ((c .before .before .before .before .before .before) .pre .1 .below) (sym (c .before .before .before .place-at .ensures) ∙ (c .before .i .given .1)), omega (arith, place-few (c .before .before .before .before .loop .k) (c .before .i .given .0 .0) (placesIn ((c .before .before .before .before .before .before) .args .path .runs)) (sym (c .before .before .before .place-at .ensures) ∙ (c .before .i .given .1))))
 
 add-k : tie.Need-add-k Inv-loop μ-loop
-add-k c =
-    let a = c .before .before .before .before .before .before .before .before in
-    omega (arith, place-few (c .before .before .before .before .before .before .loop .k) (c .before .before .before .i .given .0 .0) (placesIn (a .args .path .runs)) (sym (c .before .before .before .before .before .place-at .ensures) ∙ (c .before .before .before .i .given .1)), a .pre .1 .few)
+add-k c = omega (arith, place-few (c .before .before .before .before .before .loop .k) (c .before .before .i .given .0 .0) (placesIn ((c .before .before .before .before .before .before .before) .args .path .runs)) (sym (c .before .before .before .before .place-at .ensures) ∙ (c .before .before .i .given .1)), ((c .before .before .before .before .before .before .before) .pre .1 .few))
 
 returns-2 : tie.Need-returns-2 Inv-loop μ-loop
 returns-2 c =
-    let a = c .before .before .before .before .before .before .before .before .before .before in
-    let t = a .args .commits .now in
-    let ps = placesIn (a .args .path .runs) in
-    let k = c .before .before .before .before .before .before .before .before .loop .k in
-    let i = c .before .before .before .before .before .i .given .0 .0 in
-    let e = sym (c .before .before .before .before .before .before .before .place-at .ensures) ∙ (c .before .before .before .before .before .i .given .1) in
-    ap {B = Step} (λ (x : PageSet). record { at = At i; next = k + 1; gift = x }) (c .before .before .gift-of .ensures)
-    ∙ sym (c .before .before .before .before .before .before .before .before .loop .inv ∙ step-here t ps (a .args .count .0) k i e (not-empty (gift (a .args .count .0) (before k (commitsAt t ps)) (commitAt t i)) (λ z. omega (arith, ap (λ (x : PageSet). x .len) (c .before .before .gift-of .ensures)))))
+    ap (λ (x : PageSet). record { at = At (c .before .before .before .before .i .given .0 .0); next = (c .before .before .before .before .before .before .before .loop .k) + 1; gift = x }) (c .before .before .gift-of .ensures)
+    ∙ sym (c .before .before .before .before .before .before .before .loop .inv ∙ step-here ((c .before .before .before .before .before .before .before .before .before) .args .commits .now) (placesIn ((c .before .before .before .before .before .before .before .before .before) .args .path .runs)) ((c .before .before .before .before .before .before .before .before .before) .args .count .0) (c .before .before .before .before .before .before .before .loop .k) (c .before .before .before .before .i .given .0 .0) (sym (c .before .before .before .before .before .before .place-at .ensures) ∙ (c .before .before .before .before .i .given .1)) (not-empty (gift ((c .before .before .before .before .before .before .before .before .before) .args .count .0) (before (c .before .before .before .before .before .before .before .loop .k) (commitsAt ((c .before .before .before .before .before .before .before .before .before) .args .commits .now) (placesIn ((c .before .before .before .before .before .before .before .before .before) .args .path .runs)))) (commitAt ((c .before .before .before .before .before .before .before .before .before) .args .commits .now) (c .before .before .before .before .i .given .0 .0))) (λ z. omega (arith, ap (λ (x : PageSet). x .len) (c .before .before .gift-of .ensures)))))
 
 loop-less : tie.Need-loop-less Inv-loop μ-loop
-loop-less c = omega (arith, place-few (c .before .before .before .before .before .before .before .before .loop .k) (c .before .before .before .before .before .i .given .0 .0) (placesIn (c .before .before .before .before .before .before .before .before .before .before .args .path .runs)) (sym (c .before .before .before .before .before .before .before .place-at .ensures) ∙ (c .before .before .before .before .before .i .given .1)))
+loop-less c = omega (arith, place-few (c .before .before .before .before .before .before .before .loop .k) (c .before .before .before .before .i .given .0 .0) (placesIn ((c .before .before .before .before .before .before .before .before .before) .args .path .runs)) (sym (c .before .before .before .before .before .before .place-at .ensures) ∙ (c .before .before .before .before .i .given .1)))
 
 loop-again : tie.Need-loop-again Inv-loop μ-loop
 loop-again c =
-    let a = c .before .before .before .before .before .before .before .before .before .before in
-    let t = a .args .commits .now in
-    let ps = placesIn (a .args .path .runs) in
-    let k = c .before .before .before .before .before .before .before .before .loop .k in
-    let i = c .before .before .before .before .before .i .given .0 .0 in
-    let e = sym (c .before .before .before .before .before .before .before .place-at .ensures) ∙ (c .before .before .before .before .before .i .given .1) in
-    c .before .before .before .before .before .before .before .before .loop .inv ∙ step-on t ps (a .args .count .0) k i e (is-empty (gift (a .args .count .0) (before k (commitsAt t ps)) (commitAt t i)) (omega (arith, ap (λ (x : PageSet). x .len) (c .before .before .gift-of .ensures))))
+    (c .before .before .before .before .before .before .before .loop .inv) ∙ step-on ((c .before .before .before .before .before .before .before .before .before) .args .commits .now) (placesIn ((c .before .before .before .before .before .before .before .before .before) .args .path .runs)) ((c .before .before .before .before .before .before .before .before .before) .args .count .0) (c .before .before .before .before .before .before .before .loop .k) (c .before .before .before .before .i .given .0 .0) (sym (c .before .before .before .before .before .before .place-at .ensures) ∙ (c .before .before .before .before .i .given .1)) (is-empty (gift ((c .before .before .before .before .before .before .before .before .before) .args .count .0) (before (c .before .before .before .before .before .before .before .loop .k) (commitsAt ((c .before .before .before .before .before .before .before .before .before) .args .commits .now) (placesIn ((c .before .before .before .before .before .before .before .before .before) .args .path .runs)))) (commitAt ((c .before .before .before .before .before .before .before .before .before) .args .commits .now) (c .before .before .before .before .i .given .0 .0))) (omega (arith, ap (λ (x : PageSet). x .len) (c .before .before .gift-of .ensures))))
 
 pub next-gift-spec : {M : Type 1} → statement M
 next-gift-spec =
@@ -99,7 +72,6 @@ next-gift-spec =
     enum-told
     empty-requires
     returns
-    none-taken-requires
     gift-of-requires
     add-k
     returns-2
