@@ -1,55 +1,25 @@
--- The frame theorem over a save's contract: a refusal leaves every byte, so every record; else the bytes hold the tables that the rule answers, of which the rules' theorems speak (`NamedLogs`, `NamedRest`).
+-- The frame theorem over a save's contract: a refusal leaves every byte, so every record; else the bytes hold the tables that the rule answers, of which the rules' frame theorem speaks.
 use Prim.Native.Nat.{ℕ}
-use mathlib.Core.Path.{_≡_, refl, sym, ap, _∙_, subst}
+use mathlib.Core.Path.{_≡_, sym, ap, subst, _∙_}
 use mathlib.Core.List.{List}
-use mathlib.Core.Bool.{Bool, true, false, _&&_}
+use mathlib.Core.Bool.{true, _&&_}
 use borrow.Author.Tests.{eqb-true, eqb-false}
 use lib.Dec.{eqb}
 use Rattle.core.specs.Answers.{Answer, code}
-use Rattle.rules.specs.Records.{Id, Volume}
+use Rattle.rules.specs.Records.{Id}
 use Rattle.rules.specs.Forms.{countForm, idForm}
 use Rattle.rules.specs.Calls.{Tables, Change, saving, does, outcome, withLogs, withPresence}
 use Rattle.rules.proofs.TableLaws.{cases}
-use Rattle.rules.proofs.NamedLogs as Logs
-use Rattle.rules.proofs.NamedRest as Rest
 use Rattle.layout.specs.Values.{setBytes}
 use Rattle.arguments.specs.declared.Reply.{Reply}
 use Rattle.arguments.specs.Replies.{numberedReply}
 use Rattle.arguments.specs.Snapshots.{snapshotIn}
 use Rattle.savecalls.specs.Saving.{Saved, saveOn, Leaves}
 use Rattle.refusals.proofs.Laws.{save-left}
-use Rattle.demands.specs.Frame.{Keeps, tablesIn}
+use Rattle.keeping.specs.Frame.{Keeps}
+use Rattle.keeping.proofs.Kept.{does-keeps, same-keeps}
+use Rattle.demands.specs.Frame.{tablesIn}
 use Rattle.demands.proofs.After.{Now, now-held}
-
--- after a call that the rules speak of
-pub does-keeps : (t : Tables) (c : Change) → Keeps t c (does t c .1)
-does-keeps t c = record {
-  commit-stays = Logs.commit-stays t c;
-  entry-stays = Logs.entry-stays t c;
-  checkpoint-stays = Logs.checkpoint-stays t c;
-  commit-untouched = Logs.commit-untouched t c;
-  entry-untouched = Logs.entry-untouched t c;
-  volume-stays = Rest.volume-stays t c;
-  volume-untouched = Rest.volume-untouched t c;
-  page-stays = Rest.page-stays t c;
-  page-untouched = Rest.page-untouched t c;
-  tag-untouched = Rest.tag-untouched t c;
-}
-
--- where nothing changed
-pub same-keeps : (t : Tables) (c : Change) → Keeps t c t
-same-keeps t c = record {
-  commit-stays = λ log lsn h. h;
-  entry-stays = λ log p lsn h. h;
-  checkpoint-stays = λ log lsn h. h;
-  commit-untouched = λ log lsn h. refl;
-  entry-untouched = λ log p lsn h. refl;
-  volume-stays = λ vid v d e. (v, e, record { vid = refl; local = refl; remote = refl; pending = λ x. refl; sync = λ x. refl });
-  volume-untouched = λ vid h. refl;
-  page-stays = λ sid page h k. k;
-  page-untouched = λ sid page h k. refl;
-  tag-untouched = λ name h. refl;
-}
 
 module _ (vs cs ks es ps : List ℕ) (vid : Id) (snap : List ℕ) (count : ℕ) (sid : Id) (pages out : List ℕ) (typed : countForm count && idForm sid ≡ true) (r : Reply) (cs′ ks′ es′ ps′ out′ : List ℕ)
     (number : r ≡ numberedReply (code (saveOn vs cs ks es ps vid snap count sid pages out)))

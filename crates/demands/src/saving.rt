@@ -6,7 +6,8 @@ use boundary::viewcall::sigatuda_snapshot;
 ghost use Rattle.rules.specs.Calls.{saving};
 ghost use Rattle.layout.specs.Values.{setBytes};
 ghost use Rattle.arguments.specs.Snapshots.{snapshotIn};
-ghost use Rattle.demands.specs.Frame.{Keeps, tablesIn};
+ghost use Rattle.keeping.specs.Frame.{Keeps};
+ghost use Rattle.demands.specs.Frame.{tablesIn};
 ghost use Rattle.demands.specs.Saved.{SavedIsFound};
 
 // What a save, a snapshot and a search answered.

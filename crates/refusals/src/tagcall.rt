@@ -1,16 +1,8 @@
-// Tags.
+// Tags, deleted and replaced.
 use arguments::Reply;
 use boundary::tagcall::sigatuda_tag_delete;
-use boundary::tagcall::sigatuda_tag_read;
 use boundary::tagcall::sigatuda_tag_replace;
 ghost use Rattle.refusals.specs.Refusals.{AsFound};
-
-// The volume that a tag names: refused, it leaves the place of the answer as found.
-pub fn tag_read(tags: &[u8], name: &[u8], vid: &mut [u8; 16]) -> Reply
-    ensures { λ r. ⌜ AsFound r (now (vid .entry)) (now (vid .exit)) ⌝ }
-{
-    sigatuda_tag_read(tags, name, vid)
-}
 
 // Tag delete: refused, it leaves the tags as found.
 pub fn tag_delete(tags: &mut [u8], name: &[u8]) -> Reply

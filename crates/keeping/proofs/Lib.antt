@@ -1,0 +1,4 @@
+pub mod Kept
+pub mod Laws
+pub mod Rules
+pub mod Calls
