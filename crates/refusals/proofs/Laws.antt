@@ -14,10 +14,9 @@ use Rattle.rules.proofs.TableLaws.{cases}
 use Rattle.layout.specs.Codecs.{Codec}
 use Rattle.layout.specs.Values.{setBytes}
 use Rattle.layout.specs.Records.{volumeBytes, tagBytes, commitBytes, checkpointBytes, entryBytes, presentBytes}
-use Rattle.layout.specs.Lent.{after}
+use Rattle.layout.specs.Lent.{after, sized}
 use Rattle.arguments.specs.declared.Reply.{Reply}
 use Rattle.arguments.specs.Replies.{none-under, given, value, valueOr, numberedReply}
-use Rattle.layout.specs.Lent.{sized}
 use Rattle.arguments.specs.Sets.{SetLeft, SetLeftOr22, LeavesSet, LeavesSetOr22, LeavesCut}
 use Rattle.resultlists.specs.Lists.{listLeft}
 use Rattle.tagcalls.specs.Says.{earlier}
