@@ -1,5 +1,5 @@
 //! The walk of a long log, and a save into full tables, beside safe Rust doing the same on the same bytes: `cargo bench --offline --bench walks`. The Rust's walk holds all that was taken in one
-//! map of windows, which the caller of ours need not lend. Each figure is the best of three rounds, ours and the Rust's in turn; both must leave the same bytes.
+//! map of windows, which the caller of ours need not lend. Each figure is the best of three rounds (of 400 for 32 commits), ours and the Rust's in turn; both must leave the same bytes.
 #[allow(dead_code)] // other calls are in calls.rs and checks.rs
 mod rust;
 
@@ -8,21 +8,38 @@ use sigatuda::plain;
 use std::collections::BTreeMap;
 use std::time::Instant;
 
-const COMMITS: usize = 4096;
 const ITEM: usize = 1003;
 
-/// A commit at an LSN with so many windows from one on, one page in each.
-fn commit_of(lsn: u64, first: u32, windows: u32) -> Vec<u8> {
+/// A commit at an LSN with these windows.
+fn commit_with(lsn: u64, windows: &[(u32, u64)]) -> Vec<u8> {
     let mut b = vec![0; 722];
     b[17..25].copy_from_slice(&(!lsn).to_be_bytes());
     b[62] = 1;
-    b[79] = windows as u8;
-    for w in 0..windows {
-        let at = 80 + 12 * w as usize;
-        b[at..at + 4].copy_from_slice(&(first + w).to_be_bytes());
-        b[at + 4..at + 12].copy_from_slice(&2u64.to_be_bytes());
+    b[79] = windows.len() as u8;
+    for (w, (index, mask)) in windows.iter().enumerate() {
+        let at = 80 + 12 * w;
+        b[at..at + 4].copy_from_slice(&index.to_be_bytes());
+        b[at + 4..at + 12].copy_from_slice(&mask.to_be_bytes());
     }
     b
+}
+
+/// So many windows from one on, one page in each.
+fn row(first: u32, windows: u32) -> Vec<(u32, u64)> {
+    (first..first + windows).map(|w| (w, 2)).collect()
+}
+
+/// A commit at an LSN with so many windows from one on, one page in each.
+fn commit_of(lsn: u64, first: u32, windows: u32) -> Vec<u8> {
+    commit_with(lsn, &row(first, windows))
+}
+
+/// Four pages of 262,144, scattered by the commit's number.
+fn scattered(i: u32) -> Vec<(u32, u64)> {
+    let mut pages: Vec<u32> = (1..5).map(|k| (4 * i + k).wrapping_mul(2_654_435_761) >> 14).collect();
+    pages.sort_unstable();
+    pages.dedup_by_key(|p| *p / 64);
+    pages.iter().map(|p| (p / 64, 2 << (p % 63))).collect()
 }
 
 /// The items of the walk of all commits of one log, no page above the count: in safe Rust.
@@ -58,40 +75,57 @@ fn rust_walk(commits: &[u8], list: &mut [u8]) -> Option<usize> {
     Some(items)
 }
 
-/// Milliseconds of the best of three rounds of two pieces of work, made in turn.
-fn best(mut ours: impl FnMut(), mut rust: impl FnMut()) -> (f64, f64) {
-    let mut best = (f64::MAX, f64::MAX);
-    for _ in 0..3 {
+/// Milliseconds of the best of some rounds of two pieces of work, made in turn, each so many times.
+fn best(rounds: u32, times: u32, mut ours: impl FnMut(), mut rust: impl FnMut()) -> (f64, f64) {
+    let timed = |work: &mut dyn FnMut()| {
         let start = Instant::now();
-        ours();
-        best.0 = best.0.min(start.elapsed().as_secs_f64() * 1000.0);
-        let start = Instant::now();
-        rust();
-        best.1 = best.1.min(start.elapsed().as_secs_f64() * 1000.0);
-    }
-    best
+        (0..times).for_each(|_| work());
+        start.elapsed().as_secs_f64() * 1000.0 / f64::from(times)
+    };
+    (0..rounds).fold((f64::MAX, f64::MAX), |least, _| (least.0.min(timed(&mut ours)), least.1.min(timed(&mut rust))))
 }
 
 fn line(name: &str, (a, b): (f64, f64)) {
-    println!("{name:<60}{a:>12.3}{b:>12.3}{:>10.1}", a / b);
+    println!("{name:<72}{a:>12.4}{b:>12.4}{:>10.2}", a / b);
 }
 
-/// The walk of 4,096 commits, into a list with a place for each of them and into one with just as many as it has items.
+/// The windows of commit i of n.
+type Windows = fn(u32, u32) -> Vec<(u32, u64)>;
+
+const LOGS: [(&str, Windows); 7] = [
+    ("all of one page", |_, _| row(1, 1)),
+    ("a page each, in 32 windows", |i, _| vec![(i % 32 + 1, 2 << (i / 32 % 63))]),
+    ("a page each, in windows of their own", |i, _| row(i + 1, 1)),
+    ("32 windows each, all shared", |i, _| (1..33).map(|w| (w, 2 << ((7 * i + w) % 63))).collect()),
+    ("32 windows each, none shared", |i, _| row(32 * i + 1, 32)),
+    ("page 1 and one more each, falling", |i, n| vec![(0, 2), (n - i, 2)]),
+    ("four pages each, scattered", |i, _| scattered(i)),
+];
+
+/// The walk of a log into a list with a place for each commit, and, where there are fewer items than commits, into one with just as many places as items.
 fn walks() {
-    for (name, apart, windows) in [("all of one page", 0, 1), ("a page each", 1, 1), ("32 windows each, none shared", 32, 32)] {
-        let commits = table(722, COMMITS, |i, b| b.copy_from_slice(&commit_of((COMMITS - i) as u64, apart * i as u32 + 1, windows)));
-        let mut snapshot = [0; 262];
-        assert_eq!(plain::snapshot_new(&[0; 16], 1, COMMITS as u64, u32::MAX, &mut snapshot).code, 0);
-        let mut want = vec![0; ITEM * COMMITS];
-        let number = rust_walk(&commits, &mut want).expect("room for all");
-        for (size, places) in [("long", COMMITS), ("short", number)] {
-            let (mut list, mut copy, mut items) = (vec![0; ITEM * places], vec![0; ITEM * places], 0);
-            let times = best(
-                || assert_eq!(plain::walk(&commits, &snapshot, &mut list, &mut items).code, 0),
-                || assert_eq!(rust_walk(&commits, &mut copy), Some(number)),
-            );
-            assert!(list == copy && items as usize == number, "the same items");
-            line(&format!("walk of 4,096 commits, {name}, {size} list"), times);
+    for (commits, rounds, times) in [(32, 400, 8), (4096, 3, 1)] {
+        for (name, windows) in LOGS {
+            let commit = |i: usize| commit_with((commits - i) as u64, &windows(i as u32, commits as u32));
+            let table = table(722, commits, |i, b| b.copy_from_slice(&commit(i)));
+            let mut snapshot = [0; 262];
+            assert_eq!(plain::snapshot_new(&[0; 16], 1, commits as u64, u32::MAX, &mut snapshot).code, 0);
+            let mut want = vec![0; ITEM * commits];
+            let number = rust_walk(&table, &mut want).expect("room for all");
+            for (size, places) in [("long", commits), ("short", number)] {
+                if size == "short" && number == commits {
+                    continue;
+                }
+                let (mut list, mut copy, mut items) = (vec![0; ITEM * places], vec![0; ITEM * places], 0);
+                let figures = best(
+                    rounds,
+                    times,
+                    || assert_eq!(plain::walk(&table, &snapshot, &mut list, &mut items).code, 0),
+                    || assert_eq!(rust_walk(&table, &mut copy), Some(number)),
+                );
+                assert!(list == copy && items as usize == number, "the same items");
+                line(&format!("walk of {commits} commits, {name}, {size} list"), figures);
+            }
         }
     }
 }
@@ -149,7 +183,7 @@ fn saves() {
 }
 
 fn main() {
-    println!("{:<60}{:>12}{:>12}{:>10}", "call", "ours, ms", "Rust, ms", "ratio");
+    println!("{:<72}{:>12}{:>12}{:>10}", "call", "ours, ms", "Rust, ms", "ratio");
     walks();
     saves();
 }
