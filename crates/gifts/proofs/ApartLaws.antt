@@ -4,14 +4,14 @@ use Prim.Native.Nat.{ℕ, _+_, _-_, _*_, _/_, _%_, _<_, _≤_, min}
 use mathlib.Core.Path.{_≡_, refl, sym, ap, _∙_}
 use mathlib.Core.List.{List, [], _∷_}
 use mathlib.Core.Option.{Option, none, some}
-use mathlib.Core.Bool.{Bool, true, false, not, _&&_}
+use mathlib.Core.Bool.{Bool, true, false, not, _&&_, and-true, and-false}
 use native.Mathlib.Omega.{arith}
 use native.Mathlib.Decide.{decLt}
 use borrow.Author.Tests.{leb-true, le-leb, ne-eqb}
 use lib.Dec.{leb}
-use lib.ListN.{length, getD}
+use lib.ListN.{length, getD, take}
 use lib.Seq.{getD-take}
-use Rattle.octets.specs.Bytes.{be, part}
+use Rattle.octets.specs.Bytes.{be, part, put}
 use Rattle.pageset.specs.declared.Window.{Window}
 use Rattle.pageset.specs.declared.PageSet.{PageSet}
 use Rattle.pageset.specs.Sets.{maskAt, holds, rising, shown, member, normal, zeroWindow}
@@ -24,17 +24,18 @@ use Rattle.rules.specs.Pages.{minus}
 use Rattle.rules.specs.Write.{pagesOf}
 use Rattle.rules.proofs.TableLaws.{and-fst, and-snd, and-both, clash}
 use Rattle.pageset.proofs.BitLaws.{bit-none}
-use Rattle.rules.proofs.PageLaws.{mask-below, form-rising, holds-minus}
+use Rattle.rules.proofs.PageLaws.{mask-below, form-rising, holds-empty, holds-minus}
 use Rattle.rules.proofs.PageCounts.{minus-normal}
 use Rattle.table.specs.Table.{countOf}
 use Rattle.layout.specs.Values.{windowBytes, setBytes}
 use Rattle.layout.specs.Tables.{commitsOk}
 use Rattle.setbytes.specs.Laid.{windowsAt, setLaid}
-use Rattle.setbytes.proofs.LaidLaws.{shown-form}
+use Rattle.setbytes.proofs.LaidLaws.{says-laid, shown-form}
 use Rattle.setbytes.proofs.SetLaws.{set-at, length-windows, window-nth}
+use Rattle.setbytes.proofs.Trips.{set-read-again}
 use Rattle.setbytes.proofs.WindowLaws.{window-at}
 use Rattle.commits.specs.Places.{commitAt}
-use Rattle.gifts.specs.Taken.{Clear}
+use Rattle.gifts.specs.Taken.{Clear, NoneShared}
 use Rattle.gifts.proofs.SetLaws.{row-normal, row-pages, laid-set}
 
 -- ---- the windows of a set lie from its first to its last
@@ -75,7 +76,7 @@ module _ (s : PageSet) (e : normal s ≡ true) (u : Pages) where
       laid-set _ (minus (shown s) u) (minus-normal (shown s) u k) (λ p. holds-minus 0 (shown s) (form-rising (shown s) k) u p)
 
   -- no page is in both
-  pub none-shared : ((p : ℕ) → member s p && holds u p ≡ false) → s ≡ setLaid (minus (shown s) u)
+  pub none-shared : NoneShared (shown s) u → s ≡ setLaid (minus (shown s) u)
   none-shared h = one-set (λ p. member s p && not (holds u p)) s (setLaid (minus (shown s) u)) (record { normal = e; pages = λ p. keeps (member s p) (holds u p) (h p) }) rest-is
     where
       keeps : (a b : Bool) → a && b ≡ false → a ≡ a && not b
@@ -108,6 +109,22 @@ module _ (s : PageSet) (e : normal s ≡ true) (u : Pages) where
       by p (no l) (yes m) = neither (member s p) (holds u p) (none-held (shown s) p (above-last (shown s) (s .len) (p / 64) (p / 64) ups (shown-length s (normal-fact s e .tidy)) (let z : s .len - 1 < s .len = omega arith in rw (getD-take) m) (p / 64) (omega arith) (omega arith)))
       by p (no l) (no m) = nor (member s p) (holds u p) (none-held u p (c (p / 64) (omega arith) (omega arith)))
 
+-- ---- a set in bytes of its own
+
+module _ (s : PageSet) (e : normal s ≡ true) (b : List ℕ) where
+  pub form-written : (was : List ℕ) → length was ≡ 385 → b ≡ put 0 (setBytes .spell (shown s)) was → setBytes .read (part 0 385 b) ≡ shown s
+  form-written was l q =
+      ap (λ (x : List ℕ). setBytes .read (part 0 385 x)) q
+      ∙ sym (says-laid (setBytes .read (part 0 385 (put 0 (setBytes .spell (shown s)) was))))
+      ∙ ap shown (set-read-again was 0 (omega arith) s e)
+
+  pub form-stands : length b ≡ 385 → setBytes .read (part 0 385 b) ≡ shown s → windowsAt (s .len) 1 b ≡ shown s
+  form-stands l r =
+      let m : ℕ = min (be (part 0 1 b)) 32 in
+      let w : setBytes .read (part 0 385 b) ≡ windowsAt m 1 b = set-at b 0 (omega arith) m refl in
+      let n : s .len ≡ m = sym (shown-length s (normal-fact s e .tidy)) ∙ ap length (sym r ∙ w) ∙ length-windows m 1 b in
+      ap (λ (k : ℕ). windowsAt k 1 b) n ∙ sym w ∙ r
+
 -- ---- the pages of a commit, as the code reads their first and last window
 
 -- no segment, no window
@@ -116,16 +133,20 @@ unfolding maskAt
 clear-none none lo hi e q a b = refl
 clear-none (some s) lo hi e q a b = absurd (clash refl e)
 
+pub shared-none : (ws : Pages) (o : Option Segment) → isSome o ≡ false → NoneShared ws (pagesOf o)
+shared-none ws none e p = ap (λ (b : Bool). holds ws p && b) (holds-empty p) ∙ and-false (holds ws p)
+shared-none ws (some s) e p = absurd (clash refl e)
+
 module _ (t : List ℕ) (ok : commitsOk t ≡ true) (i : ℕ) (l : i < countOf t) (at : ℕ) (p : at ≡ 2 + i * 722) (long : at + 722 ≤ length t) (has : isSome (commitAt t i .segment) ≡ true)
     (n : ℕ) (m : n ≡ min (be (part (at + 79) 1 t)) 32) (lo hi : ℕ) where
-  stand : pagesOf (commitAt t i .segment) ≡ windowsAt n (at + 79 + 1) t
+  pub stand : pagesOf (commitAt t i .segment) ≡ windowsAt n (at + 79 + 1) t
   stand = sym (row-pages t i at p has) ∙ set-at t (at + 79) (omega arith) n m
 
   many : length (pagesOf (commitAt t i .segment)) ≡ n
   many = ap length stand ∙ length-windows n (at + 79 + 1) t
 
-  ups : rising 0 (pagesOf (commitAt t i .segment)) ≡ true
-  ups = form-rising (pagesOf (commitAt t i .segment)) (row-normal t ok i l)
+  pub row-ups : rising 0 (pagesOf (commitAt t i .segment)) ≡ true
+  row-ups = form-rising (pagesOf (commitAt t i .segment)) (row-normal t ok i l)
 
   nth-is : (j : ℕ) → j < n → getD (pagesOf (commitAt t i .segment)) j zeroWindow .index ≡ be (part (at + 79 + 1 + j * 12) 4 t)
   nth-is j h = ap (λ (ws : Pages). getD ws j zeroWindow .index) stand ∙ ap (λ (w : Window). w .index) (window-nth n (at + 79 + 1) t j h ∙ window-at (at + 79 + 1 + j * 12) t)
@@ -141,7 +162,7 @@ module _ (t : List ℕ) (ok : commitsOk t ≡ true) (i : ℕ) (l : i < countOf t
   pub clear-above : (x : ℕ) → 0 < n → x ≡ be (part (at + 79 + 1) 4 t) → hi < x → Clear lo hi (pagesOf (commitAt t i .segment))
   clear-above x h r g =
       let z : at + 79 + 1 + 0 * 12 ≡ at + 79 + 1 = omega arith in
-      below-first (pagesOf (commitAt t i .segment)) lo hi ups (omega (arith, nth-is 0 h ∙ ap (λ (k : ℕ). be (part k 4 t)) z))
+      below-first (pagesOf (commitAt t i .segment)) lo hi row-ups (omega (arith, nth-is 0 h ∙ ap (λ (k : ℕ). be (part k 4 t)) z))
 
   pub clear-below : (x : ℕ) → 0 < n → x ≡ be (part (at + 79 + 1 + (n - 1) * 12) 4 t) → x < lo → Clear lo hi (pagesOf (commitAt t i .segment))
-  clear-below x h r g = above-last (pagesOf (commitAt t i .segment)) n lo hi ups many (omega (arith, nth-is (n - 1) (omega arith)))
+  clear-below x h r g = above-last (pagesOf (commitAt t i .segment)) n lo hi row-ups many (omega (arith, nth-is (n - 1) (omega arith)))

@@ -6,27 +6,29 @@ use commits::has_segment_at;
 use commits::row;
 use core::page_count::PageCount;
 use octets::load32;
+use octets::load64;
 use pageset::PageSet;
 use pageset::sets;
 use paths::Path;
 use paths::place_at;
 use setbytes::count_read;
 use setbytes::set_read;
+use setbytes::set_write;
 ghost use mathlib.Core.Path.{_≡_};
-ghost use mathlib.Core.Bool.{true};
-ghost use Prim.Native.Nat.{_+_, _<_, _≤_};
+ghost use mathlib.Core.Bool.{true, false};
+ghost use Prim.Native.Nat.{_+_, _*_, _<_, _≤_};
 ghost use lib.ListN.{length, drop};
 ghost use Rattle.table.specs.Table.{countOf};
-ghost use Rattle.pageset.specs.Sets.{shown, normal};
+ghost use Rattle.pageset.specs.Sets.{shown, rising, normal};
 ghost use Rattle.rules.specs.Pages.{minus, truncated};
 ghost use Rattle.rules.specs.Write.{pagesOf};
 ghost use Rattle.rules.specs.Walk.{notTaken, gift as giftOf};
 ghost use Rattle.layout.specs.Tables.{commitsOk};
-ghost use Rattle.setbytes.specs.Laid.{setLaid};
+ghost use Rattle.setbytes.specs.Laid.{windowsAt, setLaid};
 ghost use Rattle.commits.specs.Places.{commitAt};
 ghost use Rattle.gifts.specs.Paths.{placesIn, Inside, commitsAt, before};
 ghost use Rattle.gifts.specs.Steps.{stepFrom};
-ghost use Rattle.gifts.specs.Taken.{Clear};
+ghost use Rattle.gifts.specs.Taken.{Clear, NoneShared};
 
 // What a step of the walk finds: where the next commit that gets pages stands, the number of the commit after it on the path, and its pages; or none.
 pub struct Step {
@@ -65,6 +67,51 @@ fn apart(commits: &[u8], i: usize, lo: u32, hi: u32) -> bool
     load32(commits, at + 1 + (n - 1) * 12) < lo
 }
 
+// Whether n windows from byte 1 of a set's bytes on share a page with m windows from a place on. Both rise, and are walked together, the lower index first.
+fn shares(form: &[u8], n: usize, commits: &[u8], at: usize, m: usize) -> bool
+    requires { ⌜ (1 + n * 12 ≤ length (now form)) × (at + m * 12 ≤ length (now commits)) × (n ≤ 32) × (m ≤ 32) ⌝ }
+    requires { ⌜ (rising 0 (windowsAt n 1 (now form)) ≡ true) × (rising 0 (windowsAt m at (now commits)) ≡ true) ⌝ }
+    ensures { λ r. ⌜ (r ≡ false → NoneShared (windowsAt n 1 (now (form .entry))) (windowsAt m at (now (commits .entry)))) ⌝ }
+{
+    let mut i: usize = 0;
+    let mut j: usize = 0;
+    while i < n {
+        if m <= j {
+            return false;
+        }
+        let x = load32(form, 1 + i * 12);
+        let y = load32(commits, at + j * 12);
+        if x < y {
+            i += 1;
+        } else {
+            if y < x {
+                j += 1;
+            } else {
+                if load64(form, 1 + i * 12 + 4) & load64(commits, at + j * 12 + 4) != 0 {
+                    return true;
+                }
+                i += 1;
+                j += 1;
+            }
+        }
+    }
+    false
+}
+
+// Whether the pages of record i share one with the n windows of a set's bytes.
+fn meets(form: &[u8], n: usize, commits: &[u8], i: usize) -> bool
+    requires { ⌜ (commitsOk (now commits) ≡ true) × (i < countOf (now commits)) ⌝ }
+    requires { ⌜ (1 + n * 12 ≤ length (now form)) × (n ≤ 32) × (rising 0 (windowsAt n 1 (now form)) ≡ true) ⌝ }
+    ensures { λ r. ⌜ (r ≡ false → NoneShared (windowsAt n 1 (now (form .entry))) (pagesOf (commitAt (now (commits .entry)) i .segment))) ⌝ }
+{
+    if !has_segment_at(commits, i) {
+        return false;
+    }
+    let at = row(commits, i) + 79;
+    let m = count_read(commits, at, 32);
+    shares(form, n, commits, at + 1, m)
+}
+
 // The pages of a that b has not.
 fn without(a: PageSet, b: PageSet) -> PageSet
     requires { ⌜ (normal a ≡ true) × (normal b ≡ true) ⌝ }
@@ -82,12 +129,14 @@ fn up_to(s: PageSet, count: PageCount) -> PageSet
     sets::truncate(s, count)
 }
 
-// The pages of a set that none of n commits of the path holds, from number `from` on. A commit whose windows are seen to lie apart from what is left is passed by.
+// The pages of a set that none of n commits of the path holds, from number `from` on. What is left is held in bytes beside the set, so that a commit that shares no page with it is passed by where it stands.
 fn not_taken(commits: &[u8], path: Path, from: usize, n: usize, s: PageSet) -> PageSet
     requires { ⌜ (commitsOk (now commits) ≡ true) × Inside (now commits) (placesIn (path .runs)) × (normal s ≡ true) × (from + n ≤ length (placesIn (path .runs))) ⌝ }
     ensures { λ r. ⌜ r ≡ setLaid (notTaken (shown s) (before n (commitsAt (now (commits .entry)) (drop from (placesIn (path .runs)))))) ⌝ }
 {
     let mut left = s;
+    let mut form = [0u8; 385];
+    set_write(&mut form, 0, s);
     let mut k: usize = 0;
     while k < n {
         let len = left.len;
@@ -101,7 +150,10 @@ fn not_taken(commits: &[u8], path: Path, from: usize, n: usize, s: PageSet) -> P
         let first = left.windows[0];
         let last = left.windows[len - 1];
         if !apart(commits, i, first.index, last.index) {
-            left = without(left, pages_at(commits, i));
+            if meets(&form, len, commits, i) {
+                left = without(left, pages_at(commits, i));
+                set_write(&mut form, 0, left);
+            }
         }
     }
     left
