@@ -261,3 +261,21 @@ fn copies() {
     assert_eq!(t.volume_from_logref(REMOTE, lsn(3), other).map(|v| v.map(|v| v.vid)), Ok(Some(VID)));
     assert_eq!(t.commits.held(), Some(5));
 }
+
+/// A path may name the new local log: it has no commits, so nothing of it is copied, also once the copies stand there.
+#[test]
+fn a_copy_of_a_path_that_names_the_new_log() {
+    let mut tables = books();
+    let mut t = tables.lend();
+    for n in [1, 2] {
+        t.write_commit(&commit(REMOTE, n, &[1])).unwrap();
+    }
+    let mut path = Snapshot::new(SPARE.local, lsn(1), lsn(9), PageCount(9)).unwrap();
+    path.append(REMOTE, lsn(1), lsn(2)).unwrap();
+    t.volume_from_snapshot(&path, SPARE).unwrap();
+    for n in [1, 2] {
+        assert_eq!(t.commits.read(SPARE.local, lsn(n)), Ok(Some(Commit { log: SPARE.local, ..commit(REMOTE, n, &[1]) })));
+    }
+    assert_eq!(t.commits.latest_lsn(SPARE.local), Ok(Some(lsn(2))));
+    assert_eq!(t.commits.held(), Some(4));
+}
