@@ -146,7 +146,12 @@ fn saves() {
         t.resize(t.len() + size * more, 0);
         t
     };
-    let fresh = [room(table(722, 30, local), 722, 2), vec![0; 2 + 25 * 8], room(table(29, 63_000, held), 29, 2_535), room(table(21, 63_000, there), 21, 2_535)];
+    let fresh = [
+        room(table(722, 30, local), 722, 2),
+        vec![0; 2 + 25 * 8],
+        room(table(29, 63_000, held), 29, 2_535),
+        room(table(21, 63_000, there), 21, 2_535),
+    ];
     let mut volumes = vec![0; 2 + 117];
     volumes[1] = 1;
     volumes[2 + 34] = 7; // the remote log; the local log is the commits'
@@ -158,7 +163,8 @@ fn saves() {
     commit[63..79].copy_from_slice(&sid);
     commit[79..464].copy_from_slice(&pages);
     let mut out = [0; 262];
-    let mut ours = |[c, k, i, p]: &mut [Vec<u8>; 4]| plain::save(&volumes, c, k, i, p, &[0; 16], &snapshot, 2_047, &sid, &pages, &mut out).code == 0;
+    let mut ours =
+        |[c, k, i, p]: &mut [Vec<u8>; 4]| plain::save(&volumes, c, k, i, p, &[0; 16], &snapshot, 2_047, &sid, &pages, &mut out).code == 0;
     let rust = |[c, k, i, p]: &mut [Vec<u8>; 4]| {
         let in_form = formed(&volumes, 117, 17, |b| b[0] == 0 && zeros(&b[50..])) && formed(p, 21, 21, present_form);
         let used = c[2..].chunks_exact(722).take(be(&c[..2]) as usize).any(|r| r[62] == 1 && r[63..79] == sid);
