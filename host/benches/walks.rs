@@ -47,29 +47,13 @@ fn rust_walk(commits: &[u8], list: &mut [u8]) -> Option<usize> {
     if !formed(commits, 722, 25, commit_form) {
         return None;
     }
-    let (mut taken, mut items) = (BTreeMap::<u32, u64>::new(), 0);
+    let (mut taken, mut items) = (BTreeMap::new(), 0);
     for record in commits[2..].chunks_exact(722).take(be(&commits[..2]) as usize) {
-        let mut gift = [0u8; 385];
-        for w in record[80..80 + 12 * usize::from(record[79])].chunks_exact(12) {
-            let (index, mask) = (be32(&w[..4]), be64(&w[4..]));
-            let held = taken.entry(index).or_insert(0);
-            let left = mask & !*held;
-            *held |= mask;
-            if left != 0 {
-                let at = 1 + 12 * usize::from(gift[0]);
-                gift[at..at + 4].copy_from_slice(&index.to_be_bytes());
-                gift[at + 4..at + 12].copy_from_slice(&left.to_be_bytes());
-                gift[0] += 1;
-            }
-        }
+        let gift = gift(record, u32::MAX, &mut taken);
         if gift[0] == 0 {
             continue;
         }
-        let item = list.get_mut(items * ITEM..(items + 1) * ITEM)?;
-        item[..16].copy_from_slice(&record[1..17]);
-        item[16..24].copy_from_slice(&(!be64(&record[17..25])).to_be_bytes());
-        item[24..618].copy_from_slice(&record[63..657]);
-        item[618..].copy_from_slice(&gift);
+        put_item(list.get_mut(items * ITEM..(items + 1) * ITEM)?, record, &gift);
         items += 1;
     }
     Some(items)

@@ -153,6 +153,10 @@ calls! {
     fn table_bytes = sigatuda_table_bytes(table: u32, records: u32) -> u32;
 }
 
+/// The check of each table, in the order of docs/TABLES.md.
+pub const FORMED: [fn(&[u8]) -> Reply; 6] =
+    [volumes_formed, tags_formed, commits_formed, checkpoints_formed, index_formed, presence_formed];
+
 /// The bytes of the frame that holds `page`, as a part of `lent`, or nothing: 1, 3, 23. `part` is written where it is found.
 pub fn frame_bytes<'a>(segment: &[u8], page: u32, lent: &'a [u8], part: &mut &'a [u8]) -> Reply {
     let mut out = Part { ptr: lent.as_ptr(), len: 0 };

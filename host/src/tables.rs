@@ -69,15 +69,7 @@ impl<'a, R: Record> Table<'a, R> {
     /// assert!(!Index::lend(&mut bytes).is_formed());
     /// ```
     pub fn is_formed(&self) -> bool {
-        let check = match R::TABLE {
-            0 => plain::volumes_formed,
-            1 => plain::tags_formed,
-            2 => plain::commits_formed,
-            3 => plain::checkpoints_formed,
-            4 => plain::index_formed,
-            _ => plain::presence_formed,
-        };
-        check(self.bytes).code == 0
+        plain::FORMED[R::TABLE as usize](self.bytes).code == 0
     }
 
     /// Its bytes.

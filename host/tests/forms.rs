@@ -125,15 +125,7 @@ fn reads<R: Record>(bytes: &[u8]) -> bool {
 #[test]
 fn tables() {
     let readers = [reads::<Volume>, reads::<Tag>, reads::<Commit>, reads::<Checkpoint>, reads::<IndexEntry>, reads::<PresentPage>];
-    let checks = [
-        plain::volumes_formed,
-        plain::tags_formed,
-        plain::commits_formed,
-        plain::checkpoints_formed,
-        plain::index_formed,
-        plain::presence_formed,
-    ];
-    for (seed, ((kind, reads), check)) in TABLES.iter().zip(readers).zip(checks).enumerate() {
+    for (seed, ((kind, reads), check)) in TABLES.iter().zip(readers).zip(plain::FORMED).enumerate() {
         let spoil = |form: &mut Vec<u8>, r: &mut Random| {
             if form.len() >= 2 {
                 damage::table(kind, form, r);

@@ -1,4 +1,5 @@
 //! Tables to run on, and the same work in safe Rust on the same bytes.
+use std::collections::BTreeMap;
 use std::hint::black_box;
 use std::time::Instant;
 
@@ -320,4 +321,35 @@ pub fn race_stores<T: Clone>(fresh: &T, mut ours: impl FnMut(&mut T) -> bool, mu
         b = b.min(start.elapsed().as_nanos() as f64);
     }
     (a, b)
+}
+
+/// The pages of a commit's record, up to a page count, that no earlier one took, as a page set in bytes; they are then taken.
+pub fn gift(record: &[u8], count: u32, taken: &mut BTreeMap<u32, u64>) -> [u8; 385] {
+    let mut gift = [0u8; 385];
+    for w in record[80..80 + 12 * usize::from(record[79])].chunks_exact(12) {
+        let (window, mask) = (be32(&w[..4]), be64(&w[4..]));
+        let mask = match (u64::from(count) + 1).saturating_sub(64 * u64::from(window)) {
+            0 => 0,
+            n if n < 64 => mask & ((1 << n) - 1),
+            _ => mask,
+        };
+        let held = taken.entry(window).or_insert(0);
+        let left = mask & !*held;
+        *held |= mask;
+        if left != 0 {
+            let at = 1 + 12 * usize::from(gift[0]);
+            gift[at..at + 4].copy_from_slice(&window.to_be_bytes());
+            gift[at + 4..at + 12].copy_from_slice(&left.to_be_bytes());
+            gift[0] += 1;
+        }
+    }
+    gift
+}
+
+/// The item of a walk: log, LSN, segment and gift.
+pub fn put_item(item: &mut [u8], record: &[u8], gift: &[u8]) {
+    item[..16].copy_from_slice(&record[1..17]);
+    item[16..24].copy_from_slice(&(!be64(&record[17..25])).to_be_bytes());
+    item[24..618].copy_from_slice(&record[63..657]);
+    item[618..].copy_from_slice(gift);
 }

@@ -243,38 +243,17 @@ pub fn walk(commits: &[u8], snapshot: &[u8], list: &mut [u8]) -> Option<usize> {
         return None;
     }
     let (path, count) = (path(snapshot)?, be32(&snapshot[1..5]));
-    let (mut taken, mut items) = (BTreeMap::<u32, u64>::new(), 0);
+    let (mut taken, mut items) = (BTreeMap::new(), 0);
     for (log, start, end) in path {
         let first = place(commits, 722, &commit_key(log, end)).unwrap_or_else(|at| at);
         let held = be(&commits[..2]) as usize;
         let ends = |c: &&[u8]| &c[1..17] == log && lsn_of(c) >= start;
         for record in commits[2 + first * 722..].chunks_exact(722).take(held - first).take_while(ends) {
-            let mut gift = [0u8; 385];
-            for w in record[80..80 + 12 * usize::from(record[79])].chunks_exact(12) {
-                let (window, mask) = (be32(&w[..4]), be64(&w[4..]));
-                let mask = match (u64::from(count) + 1).saturating_sub(64 * u64::from(window)) {
-                    0 => 0,
-                    n if n < 64 => mask & ((1 << n) - 1),
-                    _ => mask,
-                };
-                let held = taken.entry(window).or_insert(0);
-                let left = mask & !*held;
-                *held |= mask;
-                if left != 0 {
-                    let at = 1 + 12 * usize::from(gift[0]);
-                    gift[at..at + 4].copy_from_slice(&window.to_be_bytes());
-                    gift[at + 4..at + 12].copy_from_slice(&left.to_be_bytes());
-                    gift[0] += 1;
-                }
-            }
+            let gift = gift(record, count, &mut taken);
             if gift[0] == 0 {
                 continue;
             }
-            let item = list.get_mut(items * 1003..(items + 1) * 1003)?;
-            item[..16].copy_from_slice(&record[1..17]);
-            item[16..24].copy_from_slice(&lsn_of(record).to_be_bytes());
-            item[24..618].copy_from_slice(&record[63..657]);
-            item[618..].copy_from_slice(&gift);
+            put_item(list.get_mut(items * 1003..(items + 1) * 1003)?, record, &gift);
             items += 1;
         }
     }

@@ -165,15 +165,7 @@ pub fn snapshots_and_changes(r: &mut Random, seen: &mut Seen) {
 
 /// The check of a table: good, damaged, or any bytes.
 pub fn checks(r: &mut Random, seen: &mut Seen) {
-    let checks: [fn(&[u8]) -> Reply; 6] = [
-        plain::volumes_formed,
-        plain::tags_formed,
-        plain::commits_formed,
-        plain::checkpoints_formed,
-        plain::index_formed,
-        plain::presence_formed,
-    ];
-    for (kind, check) in TABLES.iter().zip(checks) {
+    for (kind, check) in TABLES.iter().zip(plain::FORMED) {
         let mut table = make::table(kind, r);
         match r.below(4) {
             0 => damage::table(kind, &mut table, r),

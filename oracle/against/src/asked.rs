@@ -7,12 +7,11 @@ use graft::core::lsn::LSN;
 use graft::core::page::Page;
 use graft::core::pageset::PageSet;
 use graft::core::{LogId, PageCount, PageIdx, SegmentId, VolumeId, logref::LogRef};
-use graft::err::LogicalErr;
 use graft::local::fjall_storage::{FjallStorage, FjallStorageErr};
 use graft::snapshot::Snapshot;
 use graft::volume::PendingCommit;
 use harness::forms;
-use harness::original::{PANIC, panic_number};
+use harness::original::{PANIC, error_number, panic_number};
 use sigatuda::{ByteForm, Reply, Tag};
 use std::collections::BTreeSet;
 use std::panic::{AssertUnwindSafe, catch_unwind};
@@ -51,16 +50,6 @@ pub fn ask(op: Op, a: &Args, storage: &FjallStorage) -> Answer {
         Err(_) => answer.reply.code = number_of_panic(op, &PANIC.take()),
     }
     answer
-}
-
-fn error_number(error: &FjallStorageErr) -> u32 {
-    match error {
-        FjallStorageErr::LogicalErr(LogicalErr::VolumeNotFound(_)) => 4,
-        FjallStorageErr::LogicalErr(LogicalErr::VolumeRemoteMismatch { .. }) => 6,
-        FjallStorageErr::LogicalErr(LogicalErr::VolumeConcurrentWrite(_)) => 7,
-        FjallStorageErr::LogicalErr(LogicalErr::VolumeDiverged(_)) => 8,
-        other => panic!("the original fails with no number: {other}"),
-    }
 }
 
 /// The number of a panic's place. Success has two that say nothing of their own: no pending commit, and two values that differ.

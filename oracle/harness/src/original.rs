@@ -8,6 +8,8 @@ use crate::ops::{self, *};
 use graft::core::lsn::LSN;
 use graft::core::pageset::PageSet;
 use graft::core::{LogId, PageCount, PageIdx};
+use graft::err::LogicalErr;
+use graft::local::fjall_storage::FjallStorageErr;
 use graft::snapshot::Snapshot;
 use graft::volume::AheadStatus;
 use std::cell::RefCell;
@@ -69,6 +71,17 @@ pub fn panic_number(words: &str) -> Option<u8> {
         ("LSN overflow", 18),
     ];
     numbers.iter().find(|n| words.contains(n.0)).map(|n| n.1)
+}
+
+/// The number of an error: it has four that are document 01's.
+pub fn error_number(error: &FjallStorageErr) -> u32 {
+    match error {
+        FjallStorageErr::LogicalErr(LogicalErr::VolumeNotFound(_)) => 4,
+        FjallStorageErr::LogicalErr(LogicalErr::VolumeRemoteMismatch { .. }) => 6,
+        FjallStorageErr::LogicalErr(LogicalErr::VolumeConcurrentWrite(_)) => 7,
+        FjallStorageErr::LogicalErr(LogicalErr::VolumeDiverged(_)) => 8,
+        other => panic!("the original fails with no number: {other}"),
+    }
 }
 
 /// The original's answer to a call whose arguments are in form, or nothing where it cannot be compared.

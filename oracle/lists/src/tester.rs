@@ -5,10 +5,9 @@ use graft::core::lsn::LSN;
 use graft::core::page::Page;
 use graft::core::pageset::PageSet;
 use graft::core::{LogId, PageCount, PageIdx, SegmentId, VolumeId};
-use graft::err::LogicalErr;
-use graft::local::fjall_storage::{FjallStorage, FjallStorageErr};
+use graft::local::fjall_storage::FjallStorage;
 use graft::snapshot::Snapshot;
-use harness::original::{PANIC, panic_number};
+use harness::original::{PANIC, error_number, panic_number};
 use std::collections::BTreeSet;
 use std::panic::{AssertUnwindSafe, catch_unwind};
 
@@ -36,16 +35,6 @@ fn id(last: u8) -> [u8; 16] {
 
 fn head(snapshot: &Snapshot) -> Head {
     snapshot.head().map(|(log, lsn)| (log.bytes()[15], lsn.to_u64()))
-}
-
-fn number(error: FjallStorageErr) -> u32 {
-    match error {
-        FjallStorageErr::LogicalErr(LogicalErr::VolumeNotFound(_)) => 4,
-        FjallStorageErr::LogicalErr(LogicalErr::VolumeRemoteMismatch { .. }) => 6,
-        FjallStorageErr::LogicalErr(LogicalErr::VolumeConcurrentWrite(_)) => 7,
-        FjallStorageErr::LogicalErr(LogicalErr::VolumeDiverged(_)) => 8,
-        other => panic!("the original fails with no number: {other}"),
-    }
 }
 
 /// How many pages these ranges have.
@@ -90,7 +79,7 @@ impl Tester {
         match call {
             Call::Open { vid, local, remote } => self.open(VolumeId::new(id(vid)), LogId::new(id(local)), LogId::new(id(remote))),
             Call::Snap { vid, slot } => {
-                let snapshot = self.storage.reads().snapshot(&VolumeId::new(id(vid))).map_err(number)?;
+                let snapshot = self.storage.reads().snapshot(&VolumeId::new(id(vid))).map_err(|e| error_number(&e))?;
                 let named = head(&snapshot);
                 self.slots[slot] = Some(snapshot);
                 Ok(named)
@@ -104,12 +93,12 @@ impl Tester {
                 if n == 0 {
                     return Err(1);
                 }
-                let found = self.storage.reads().search_page(snapshot, page(n)).map_err(number)?;
+                let found = self.storage.reads().search_page(snapshot, page(n)).map_err(|e| error_number(&e))?;
                 Ok(found.map(|c| (c.log.bytes()[15], c.lsn.to_u64())))
             }
             Call::Fetch { log, lsn, count, sid, pages } => self.fetch(LogId::new(id(log)), lsn, count, sid, &pages),
             Call::Pull { vid } => {
-                self.storage.guarded().sync_remote_to_local(VolumeId::new(id(vid))).map_err(number)?;
+                self.storage.guarded().sync_remote_to_local(VolumeId::new(id(vid))).map_err(|e| error_number(&e))?;
                 Ok(None)
             }
         }
@@ -117,10 +106,10 @@ impl Tester {
 
     fn open(&mut self, vid: VolumeId, local: LogId, remote: LogId) -> Answer {
         let held = self.storage.dump().expect("all decodes").volumes.len();
-        if held == VOLUMES && !self.storage.reads().volume_exists(&vid).map_err(number)? {
+        if held == VOLUMES && !self.storage.reads().volume_exists(&vid).map_err(|e| error_number(&e))? {
             return Err(19);
         }
-        self.storage.guarded().volume_open(Some(vid), Some(local), Some(remote)).map_err(number)?;
+        self.storage.guarded().volume_open(Some(vid), Some(local), Some(remote)).map_err(|e| error_number(&e))?;
         Ok(None)
     }
 
@@ -129,8 +118,8 @@ impl Tester {
         let reads = self.storage.reads();
         let passes = match reads.volume(&vid) {
             Ok(volume) => {
-                let last = reads.latest_lsn(&volume.local).map_err(number)?;
-                reads.is_latest_snapshot(&vid, &snapshot).map_err(number)? && last.is_none_or(|l| l.to_u64() < u64::MAX)
+                let last = reads.latest_lsn(&volume.local).map_err(|e| error_number(&e))?;
+                reads.is_latest_snapshot(&vid, &snapshot).map_err(|e| error_number(&e))? && last.is_none_or(|l| l.to_u64() < u64::MAX)
             }
             Err(_) => false,
         };
@@ -152,7 +141,7 @@ impl Tester {
         }
         SegmentId::queue(id(sid));
         let contents = if passes { numbers(pages).map(|n| (page(n), Page::EMPTY)).collect() } else { Default::default() };
-        let after = self.storage.guarded().commit(&vid, snapshot, PageCount::new(count), contents).map_err(number)?;
+        let after = self.storage.guarded().commit(&vid, snapshot, PageCount::new(count), contents).map_err(|e| error_number(&e))?;
         Ok(head(&after))
     }
 
@@ -173,7 +162,7 @@ impl Tester {
             set.insert(page(n));
         });
         let segment = SegmentIdx::new(SegmentId::new(id(sid)), set);
-        self.storage.store_commit(Commit::new(log, lsn, PageCount::new(count)).with_segment_idx(Some(segment))).map_err(number)?;
+        self.storage.store_commit(Commit::new(log, lsn, PageCount::new(count)).with_segment_idx(Some(segment))).map_err(|e| error_number(&e))?;
         Ok(None)
     }
 }
