@@ -1,10 +1,12 @@
 -- The windows of a set with masks of their own.
-use Prim.Native.Nat.{ℕ, zero, suc}
+use Prim.Native.Nat.{ℕ, zero, suc, _+_, _*_, _<_}
+use mathlib.Core.Path.{_≡_}
 use mathlib.Core.List.{List, [], _∷_}
 use mathlib.Core.Bool.{Bool, true, cond, _&&_}
 use lib.Bits.{bitOr}
 use lib.Dec.{eqb, ltb}
-use Rattle.pageset.specs.Sets.{maskAt}
+use lib.ListN.{length, getD}
+use Rattle.pageset.specs.Sets.{bit, maskAt, zeroWindow}
 use Rattle.rules.specs.Records.{Pages}
 use Rattle.rules.specs.Pages.{without}
 
@@ -32,3 +34,7 @@ unfoldable pub noMasks : ℕ → List ℕ → Bool
 noMasks zero ms = true
 noMasks (suc n) [] = true
 noMasks (suc n) (m ∷ ms) = eqb m 0 && noMasks n ms
+
+-- bit by bit, the masks say f of the pages of their windows
+abbrev pub Has : (ℕ → Bool) → Pages → List ℕ → Type 0
+Has f ws ms = (i : ℕ) → i < length ws → (b : ℕ) → b < 64 → bit (getD ms i 0) b ≡ f (getD ws i zeroWindow .index * 64 + b)
