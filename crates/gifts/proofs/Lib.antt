@@ -1,8 +1,9 @@
--- `PathLaws`: the places of a path, run by run; `SetLaws`: sets by value against the rules' lists of windows; `ApartLaws`: pages that take nothing from a set;
--- `SharedLaws`: two sets in bytes walked together; `StepLaws`: a turn of the walk; `WalkLaws`: the walk goes by steps.
+-- `PathLaws`: the places of a path, run by run; `SetLaws`: the pages of a commit where they stand; `ApartLaws`: pages that have no window in a span; `StepLaws`: a turn of the walk;
+-- `HeldLaws`: the pages that earlier commits hold; `SortLaws`: windows sorted by the notes; `WalkLaws`: the walk goes by steps.
 pub mod ApartLaws
+pub mod HeldLaws
 pub mod PathLaws
 pub mod SetLaws
-pub mod SharedLaws
+pub mod SortLaws
 pub mod StepLaws
 pub mod WalkLaws

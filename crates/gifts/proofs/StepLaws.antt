@@ -1,28 +1,21 @@
 -- A turn of the walk. The place of a number says which commit has that number, what is left of the path from it on, and that it joins those met before the next number.
 use Prim.Native.Nat.{ℕ, zero, suc, _+_, _<_, _≤_}
-use mathlib.Core.Path.{_≡_, refl, sym, ap, ap₂, _∙_}
+use mathlib.Core.Path.{_≡_, refl, sym, ap, _∙_}
 use mathlib.Core.List.{List, [], _∷_, map}
-use mathlib.Core.Option.{Option, none, some}
+use mathlib.Core.Option.{none, some}
 use mathlib.Core.Bool.{Bool, true, false, cond}
 use native.Mathlib.Omega.{arith}
 use native.Mathlib.Numerals.{add-one}
 use native.Mathlib.Decide.{decLt}
 use lib.ListN.{length, drop}
-use Rattle.pageset.specs.declared.PageSet.{PageSet}
-use Rattle.pageset.specs.Sets.{shown, normalForm, normal}
-use Rattle.pageset.specs.Says.{emptySet}
 use Rattle.rules.specs.Records.{Pages, Commit}
-use Rattle.rules.specs.Pages.{isEmpty, minus}
-use Rattle.rules.specs.Write.{pagesOf}
-use Rattle.rules.specs.Walk.{notTaken, gift}
-use Rattle.setbytes.specs.Laid.{setLaid}
-use Rattle.setbytes.proofs.LaidLaws.{says-laid, laid-normal}
+use Rattle.rules.specs.Pages.{isEmpty}
+use Rattle.rules.specs.Walk.{gift}
 use Rattle.rows.specs.Lookups.{nth}
 use Rattle.commits.specs.Places.{commitAt}
 use Rattle.commits.specs.declared.Place.the-variants.{At, Missing}
-use Rattle.gifts.specs.Paths.{placeAt, Below, commitsAt, more, before}
+use Rattle.gifts.specs.Paths.{placeAt, Below, commitsAt, before}
 use Rattle.gifts.specs.Steps.{stepOf, stepFrom}
-use Rattle.gifts.proofs.SetLaws.{notTaken-normal, minus-none, none-shown}
 
 -- ---- the place of a number
 
@@ -95,57 +88,17 @@ module _ (t ps : List ℕ) where
       go (yes l) r = let z : suc n ≡ k = omega arith in ap (λ (m : ℕ). before m (commitsAt t ps)) z
       go (no l) r = before-past k n e (omega arith) ∙ r (omega arith)
 
-  -- nothing is left once nothing is
-  pub empty-stays : (s : Pages) (k n : ℕ) → notTaken s (before k (commitsAt t ps)) ≡ [] → k ≤ n → notTaken s (before n (commitsAt t ps)) ≡ []
-  empty-stays s k zero e h = let z : 0 ≡ k = omega arith in ap (λ (m : ℕ). notTaken s (before m (commitsAt t ps))) z ∙ e
-  empty-stays s k (suc n) e h = go (decLt n k) (empty-stays s k n e)
-    where
-      less : (o : Option Commit) → notTaken s (before n (commitsAt t ps)) ≡ [] → notTaken s (more o (before n (commitsAt t ps))) ≡ []
-      less none q = q
-      less (some c) q = ap (λ (x : Pages). minus x (pagesOf (c .segment))) q ∙ minus-none (pagesOf (c .segment))
-
-      go : Dec (n < k) → (k ≤ n → notTaken s (before n (commitsAt t ps)) ≡ []) → notTaken s (before (suc n) (commitsAt t ps)) ≡ []
-      go (yes l) r = let z : suc n ≡ k = omega arith in ap (λ (m : ℕ). notTaken s (before m (commitsAt t ps))) z ∙ e
-      go (no l) r = less (nth n (commitsAt t ps)) (r (omega arith))
-
-  -- ---- what is left of a set, commit by commit
-
-  module _ (s : Pages) (k : ℕ) (left : PageSet) (e : left ≡ setLaid (notTaken s (before k (commitsAt t ps)))) where
-    pub left-normal : normalForm s ≡ true → normal left ≡ true
-    left-normal h = ap normal e ∙ laid-normal (notTaken s (before k (commitsAt t ps))) (notTaken-normal s (before k (commitsAt t ps)) h)
-
-    -- nothing is left, or no commit is
-    pub left-none : (n : ℕ) → left .len ≡ 0 → k ≤ n → left ≡ setLaid (notTaken s (before n (commitsAt t ps)))
-    left-none n z h =
-        let q = none-shown (notTaken s (before k (commitsAt t ps))) (sym (ap (λ (x : PageSet). x .len) e) ∙ z) in
-        e ∙ ap setLaid (q ∙ sym (empty-stays s k n q h))
-
-    pub left-end : (n : ℕ) → placeAt k ps ≡ Missing → k ≤ n → left ≡ setLaid (notTaken s (before n (commitsAt t ps)))
-    left-end n m h = e ∙ ap (λ (l : List Commit). setLaid (notTaken s l)) (sym (before-all k n m h))
-
-    -- less the next commit's pages
-    pub left-next : (i : ℕ) → placeAt k ps ≡ At i → (q r : PageSet) → q ≡ setLaid (pagesOf (commitAt t i .segment)) → r ≡ setLaid (minus (shown left) (shown q)) → r ≡ setLaid (notTaken s (before (k + 1) (commitsAt t ps)))
-    left-next i a q r f g =
-        g
-        ∙ ap₂ (λ (x y : Pages). setLaid (minus x y)) (ap shown e ∙ says-laid (notTaken s (before k (commitsAt t ps)))) (ap shown f ∙ says-laid (pagesOf (commitAt t i .segment)))
-        ∙ ap (λ (l : List Commit). setLaid (notTaken s l)) (sym (before-next k i a))
-
-    -- the next commit takes nothing
-    pub left-kept : (i : ℕ) → placeAt k ps ≡ At i → left ≡ setLaid (minus (shown left) (pagesOf (commitAt t i .segment))) → left ≡ setLaid (notTaken s (before (k + 1) (commitsAt t ps)))
-    left-kept i a g =
-        left-next i a (setLaid (pagesOf (commitAt t i .segment))) left refl (g ∙ ap (λ (x : Pages). setLaid (minus (shown left) x)) (sym (says-laid (pagesOf (commitAt t i .segment)))))
-
   -- ---- the step
 
   module _ (count k : ℕ) where
     abbrev gave : ℕ → Pages
     gave i = gift count (before k (commitsAt t ps)) (commitAt t i)
 
-    pub step-end : placeAt k ps ≡ Missing → stepFrom t count ps k ≡ record { at = Missing; next = k; gift = emptySet }
+    pub step-end : placeAt k ps ≡ Missing → stepFrom t count ps k ≡ (record { at = Missing; next = k }, [])
     unfolding stepFrom stepOf
     step-end e = rw (place-none k ps e)
 
-    pub step-here : (i : ℕ) → placeAt k ps ≡ At i → isEmpty (gave i) ≡ false → stepFrom t count ps k ≡ record { at = At i; next = k + 1; gift = setLaid (gave i) }
+    pub step-here : (i : ℕ) → placeAt k ps ≡ At i → isEmpty (gave i) ≡ false → stepFrom t count ps k ≡ (record { at = At i; next = k + 1 }, gave i)
     unfolding stepFrom stepOf
     step-here i e h = rw (place-left k i ps e, h)
 
@@ -154,5 +107,5 @@ module _ (t ps : List ℕ) where
     step-on i e h =
         let q = before-next k i e in
         ap (λ (l : List ℕ). stepOf t count (before k (commitsAt t ps)) l k) (place-left k i ps e)
-        ∙ ap (λ (b : Bool). cond b (stepOf t count (commitAt t i ∷ before k (commitsAt t ps)) (drop (k + 1) ps) (k + 1)) (record { at = At i; next = k + 1; gift = setLaid (gave i) })) h
+        ∙ ap (λ (b : Bool). cond b (stepOf t count (commitAt t i ∷ before k (commitsAt t ps)) (drop (k + 1) ps) (k + 1)) (record { at = At i; next = k + 1 }, gave i)) h
         ∙ ap (λ (l : List Commit). stepOf t count l (drop (k + 1) ps) (k + 1)) (sym q)

@@ -18,14 +18,14 @@ use Rattle.rules.proofs.PageCounts.{truncated-normal}
 use Rattle.table.specs.Table.{countOf}
 use Rattle.table.specs.declared.Run.{Run}
 use Rattle.layout.specs.Tables.{commitsIn, commitsOk}
-use Rattle.setbytes.specs.Laid.{setLaid}
 use Rattle.setbytes.proofs.LaidLaws.{says-laid, laid-normal}
 use Rattle.commits.specs.Places.{commitAt}
 use Rattle.commits.specs.declared.Place.{Place}
 use Rattle.commits.specs.declared.Place.the-variants.{At, Missing}
 use Rattle.gifts.specs.Paths.{placesIn, placeAt, Inside, commitsAt, PathOf, before}
-use Rattle.gifts.specs.Steps.{stepFrom, segmentOf, itemAt, itemsFrom}
+use Rattle.gifts.specs.Steps.{stepFrom, foundFrom, segmentOf, itemAt, itemsFrom}
 use Rattle.gifts.specs.declared.Step.{Step}
+use Rattle.gifts.specs.declared.Found.{Found}
 use Rattle.gifts.proofs.SetLaws.{row-normal, notTaken-normal, minus-none}
 use Rattle.gifts.proofs.StepLaws.{place-left, place-few, place-below, place-none, before-next, step-end, step-here, step-on}
 
@@ -77,34 +77,33 @@ module _ (t ps : List ℕ) (ok : commitsOk t ≡ true) (inside : Inside t ps) (c
   gave-normal k i l = notTaken-normal (truncated (pagesOf (commitAt t i .segment)) count) (before k (commitsAt t ps)) (truncated-normal (pagesOf (commitAt t i .segment)) count (row-normal t ok i l))
 
   -- what a step from k says where it finds record i
-  pub record Stepped (k : ℕ) (s : Step) (i : ℕ) : Type 0 where
+  pub record Stepped (k : ℕ) (s : Step) (g : Pages) (i : ℕ) : Type 0 where
     pub has : isSome (commitAt t i .segment) ≡ true
     pub below : i < countOf t
-    pub normal : normal (s .gift) ≡ true
-    pub items : itemsFrom t count ps k ≡ itemAt t i (shown (s .gift)) ∷ itemsFrom t count ps (s .next)
+    pub normal : normalForm g ≡ true
+    pub items : itemsFrom t count ps k ≡ itemAt t i g ∷ itemsFrom t count ps (s .next)
     pub later : k < s .next
     pub few : s .next ≤ length ps
 
+  abbrev Went : ℕ → Step × Pages → ℕ → Type 0
+  Went k x i = Stepped k (x .0) (x .1) i
+
   -- number k gets pages
   module _ (k i : ℕ) (e : placeAt k ps ≡ At i) (h : isEmpty (gave k i) ≡ false) where
-    abbrev now : Step
-    now = record { at = At i; next = k + 1; gift = setLaid (gave k i) }
-
     inner : i < countOf t
     inner = place-below (countOf t) k i ps (inside .below) e
 
     has-one : isSome (commitAt t i .segment) ≡ true
     has-one = options (commitAt t i .segment) (λ q. absurd (clash (ap isEmpty (no-gift count (before k (commitsAt t ps)) (commitAt t i) q)) h)) (λ s q. ap (λ (o : Option Segment). isSome o) q)
 
-    given : Stepped k now i
+    given : Went k (record { at = At i; next = k + 1 }, gave k i) i
     given = record {
       has = has-one;
       below = inner;
-      normal = laid-normal (gave k i) (gave-normal k i inner);
+      normal = gave-normal k i inner;
       items =
           items-here k i e
-          ∙ ap (λ (l : List Item). l ++ itemsFrom t count ps (k + 1)) (one-item (commitAt t i) (commitAt t i .segment) (gave k i) has-one h)
-          ∙ ap (λ (g : Pages). itemAt t i g ∷ itemsFrom t count ps (k + 1)) (sym (says-laid (gave k i)));
+          ∙ ap (λ (l : List Item). l ++ itemsFrom t count ps (k + 1)) (one-item (commitAt t i) (commitAt t i .segment) (gave k i) has-one h);
       later = omega arith;
       few = omega (arith, place-few k i ps e);
     }
@@ -114,8 +113,8 @@ module _ (t ps : List ℕ) (ok : commitsOk t ≡ true) (inside : Inside t ps) (c
     skips : itemsFrom t count ps k ≡ itemsFrom t count ps (k + 1)
     skips = items-here k p e ∙ ap (λ (l : List Item). l ++ itemsFrom t count ps (k + 1)) (left-out (commitAt t p) (commitAt t p .segment) (gave k p) h)
 
-    steps-on : (i : ℕ) → Stepped (k + 1) (stepFrom t count ps (k + 1)) i → Stepped k (stepFrom t count ps k) i
-    steps-on i r = subst (λ (s : Step). Stepped k s i) (sym (step-on t ps count k p e h)) (record {
+    steps-on : (i : ℕ) → Went (k + 1) (stepFrom t count ps (k + 1)) i → Went k (stepFrom t count ps k) i
+    steps-on i r = subst (λ (x : Step × Pages). Went k x i) (sym (step-on t ps count k p e h)) (record {
       has = r .has;
       below = r .below;
       normal = r .normal;
@@ -124,35 +123,61 @@ module _ (t ps : List ℕ) (ok : commitsOk t ≡ true) (inside : Inside t ps) (c
       few = r .few;
     })
 
-  found-by : (n k : ℕ) → length ps ≤ k + n → (i : ℕ) → stepFrom t count ps k .at ≡ At i → Stepped k (stepFrom t count ps k) i
+  found-by : (n k : ℕ) → length ps ≤ k + n → (i : ℕ) → stepFrom t count ps k .0 .at ≡ At i → Went k (stepFrom t count ps k) i
   found-by zero k h i e =
-      placed (placeAt k ps) (λ m. no-place (stepFrom t count ps k .at) i (ap (λ (s : Step). s .at) (step-end t ps count k m)) e) (λ p q. absurd (omega (arith, place-few k p ps q)))
+      placed (placeAt k ps) (λ m. no-place (stepFrom t count ps k .0 .at) i (ap (λ (x : Step × Pages). x .0 .at) (step-end t ps count k m)) e) (λ p q. absurd (omega (arith, place-few k p ps q)))
   found-by (suc n) k h i e =
-      placed (placeAt k ps) (λ m. no-place (stepFrom t count ps k .at) i (ap (λ (s : Step). s .at) (step-end t ps count k m)) e)
+      placed (placeAt k ps) (λ m. no-place (stepFrom t count ps k .0 .at) i (ap (λ (x : Step × Pages). x .0 .at) (step-end t ps count k m)) e)
       (λ p q. cases (isEmpty (gave k p))
-      (λ b. steps-on k p q b i (found-by n (k + 1) (omega arith) i (ap (λ (s : Step). s .at) (sym (step-on t ps count k p q b)) ∙ e)))
+      (λ b. steps-on k p q b i (found-by n (k + 1) (omega arith) i (ap (λ (x : Step × Pages). x .0 .at) (sym (step-on t ps count k p q b)) ∙ e)))
       (λ b. let s = step-here t ps count k p q b in
-      let z : p ≡ i = same-place p i (sym (ap (λ (s : Step). s .at) s) ∙ e) in
-      subst (λ (j : ℕ). Stepped k (stepFrom t count ps k) j) z (subst (λ (x : Step). Stepped k x p) (sym s) (given k p q b))))
+      let z : p ≡ i = same-place p i (sym (ap (λ (x : Step × Pages). x .0 .at) s) ∙ e) in
+      subst (λ (j : ℕ). Went k (stepFrom t count ps k) j) z (subst (λ (x : Step × Pages). Went k x p) (sym s) (given k p q b))))
     where
       same-place : (p i : ℕ) → At p ≡ At i → p ≡ i
       same-place p i e = cc
 
-  none-by : (n k : ℕ) → length ps ≤ k + n → stepFrom t count ps k .at ≡ Missing → itemsFrom t count ps k ≡ []
+  none-by : (n k : ℕ) → length ps ≤ k + n → stepFrom t count ps k .0 .at ≡ Missing → itemsFrom t count ps k ≡ []
   none-by zero k h e = placed (placeAt k ps) (λ m. items-none t ps count k m) (λ p q. absurd (omega (arith, place-few k p ps q)))
   none-by (suc n) k h e =
       placed (placeAt k ps) (λ m. items-none t ps count k m)
       (λ p q. cases (isEmpty (gave k p))
-      (λ b. skips k p q b ∙ none-by n (k + 1) (omega arith) (ap (λ (s : Step). s .at) (sym (step-on t ps count k p q b)) ∙ e))
-      (λ b. no-place (stepFrom t count ps k .at) p e (ap (λ (s : Step). s .at) (step-here t ps count k p q b))))
+      (λ b. skips k p q b ∙ none-by n (k + 1) (omega arith) (ap (λ (x : Step × Pages). x .0 .at) (sym (step-on t ps count k p q b)) ∙ e))
+      (λ b. no-place (stepFrom t count ps k .0 .at) p e (ap (λ (x : Step × Pages). x .0 .at) (step-here t ps count k p q b))))
 
   -- THE LAW OF STEPS
-  module _ (k : ℕ) (s : Step) (r : s ≡ stepFrom t count ps k) where
-    pub step-found : (i : ℕ) → s .at ≡ At i → Stepped k s i
-    step-found i e = subst (λ (x : Step). Stepped k x i) (sym r) (found-by (length ps) k (omega arith) i (ap (λ (x : Step). x .at) (sym r) ∙ e))
+  module _ (k : ℕ) (s : Step) (r : s ≡ stepFrom t count ps k .0) where
+    pub step-found : (i : ℕ) → s .at ≡ At i → Stepped k s (stepFrom t count ps k .1) i
+    step-found i e = subst (λ (x : Step). Stepped k x (stepFrom t count ps k .1) i) (sym r) (found-by (length ps) k (omega arith) i (ap (λ (x : Step). x .at) (sym r) ∙ e))
 
     pub step-none : s .at ≡ Missing → itemsFrom t count ps k ≡ []
     step-none e = none-by (length ps) k (omega arith) (ap (λ (x : Step). x .at) (sym r) ∙ e)
+
+  -- the same of a gift by value
+  pub record FoundAt (k : ℕ) (s : Found) (i : ℕ) : Type 0 where
+    pub has : isSome (commitAt t i .segment) ≡ true
+    pub below : i < countOf t
+    pub normal : normal (s .gift) ≡ true
+    pub items : itemsFrom t count ps k ≡ itemAt t i (shown (s .gift)) ∷ itemsFrom t count ps (s .next)
+    pub later : k < s .next
+    pub few : s .next ≤ length ps
+
+  module _ (k : ℕ) (s : Found) (r : s ≡ foundFrom t count ps k) where
+    pub found-at : (i : ℕ) → s .at ≡ At i → FoundAt k s i
+    found-at i e =
+        let x = found-by (length ps) k (omega arith) i (ap (λ (x : Found). x .at) (sym r) ∙ e) in
+        let g = stepFrom t count ps k .1 in
+        subst (λ (x : Found). FoundAt k x i) (sym r) (record {
+          has = x .has;
+          below = x .below;
+          normal = laid-normal g (x .normal);
+          items = x .items ∙ ap (λ (p : Pages). itemAt t i p ∷ itemsFrom t count ps (stepFrom t count ps k .0 .next)) (sym (says-laid g));
+          later = x .later;
+          few = x .few;
+        })
+
+    pub found-none : s .at ≡ Missing → itemsFrom t count ps k ≡ []
+    found-none e = none-by (length ps) k (omega arith) (ap (λ (x : Found). x .at) (sym r) ∙ e)
 
 -- ---- the whole walk
 

@@ -1,3 +1,3 @@
 pub mod Paths
 pub mod Steps
-pub mod Taken
+pub mod Held

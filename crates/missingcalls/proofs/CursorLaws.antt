@@ -31,8 +31,8 @@ use Rattle.arguments.proofs.SetLaws.{empty-normal}
 use Rattle.segmentargs.proofs.ListLaws.{parts-long}
 use Rattle.gifts.specs.Paths.{Below, Inside, commitsAt}
 use Rattle.gifts.specs.Steps.{itemsFrom}
-use Rattle.gifts.specs.declared.Step.{Step as Gift}
-use Rattle.gifts.proofs.WalkLaws.{Stepped}
+use Rattle.gifts.specs.declared.Found.{Found as Gift}
+use Rattle.gifts.proofs.WalkLaws.{FoundAt}
 use Rattle.missingcalls.specs.declared.Cursor.{Cursor}
 use Rattle.missingcalls.specs.declared.Missing.{Missing as Step}
 use Rattle.missingcalls.specs.declared.FrameStep.{FrameStep}
@@ -128,7 +128,7 @@ module _ (t : List ℕ) (ps : Table R.Present) (count : ℕ) (places : List ℕ)
 
   -- ---- the items of the path
 
-  module _ (ok : commitsOk t ≡ true) (inside : Inside t places) (k : ℕ) (s : Gift) (i : ℕ) (h : Stepped t places ok inside count k s i) where
+  module _ (ok : commitsOk t ≡ true) (inside : Inside t places) (k : ℕ) (s : Gift) (i : ℕ) (h : FoundAt t places ok inside count k s i) where
     pub item-left : missingOf ps (itemsFrom t count places k) ≡ framesLeft ps (shown (s .gift)) (framesAt t i) 0 ++ later (s .next)
     item-left = ap (missingOf ps) (h .items)
 

@@ -18,7 +18,7 @@ use Rattle.rules.specs.Frames.{Part}
 use Rattle.rules.specs.Walk.{isMissing}
 use Rattle.layout.specs.Values.{partBytes}
 use Rattle.resultlists.proofs.EntryLaws.{flat-append, flat-one, run-listed, slots-room}
-use Rattle.walkcalls.proofs.Putting.{Putting, put-length}
+use Rattle.resultlists.proofs.Putting.{Putting, put-length}
 use Rattle.missingcalls.specs.Cursors.{framesLeft}
 use Rattle.missingcalls.specs.Entries.{entered, Entries}
 use Rattle.missingcalls.proofs.FrameLaws.{frame-yes, frame-no}

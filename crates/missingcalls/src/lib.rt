@@ -9,7 +9,7 @@ use commits::row;
 use core::page_count::MaybePage;
 use core::page_count::PageCount;
 use entries::presence_formed;
-use gifts::next_gift;
+use gifts::next_set;
 use gifts::paths::Path;
 use gifts::paths::path_of;
 use layout::RANGE;
@@ -107,16 +107,18 @@ fn next_frame(commits: &[u8], presence: &[u8], i: usize, gift: PageSet, from: us
     }
 }
 
-// The first missing frame of the items from a number of the path on.
+// The first missing frame of the items from a number of the path on. The notes know nothing of the commits before it.
 fn next_item(commits: &[u8], presence: &[u8], path: Path, count: PageCount, from: usize) -> Missing
     requires { ⌜ (commitsOk (now commits) ≡ true) × (presenceOk (now presence) ≡ true) × Inside (now commits) (placesIn (path .runs)) ⌝ }
     ensures { λ r. ⌜ NextMissing (now (commits .entry)) (presenceIn (now (presence .entry))) (count .0) (placesIn (path .runs)) (missingOf (presenceIn (now (presence .entry))) (itemsFrom (now (commits .entry)) (count .0) (placesIn (path .runs)) from)) r ⌝ }
 {
+    let mut tags = [4294967295u32; 128];
+    let mut masks = [0u64; 128];
+    let mut marks = [18446744073709551615u64; 64];
     let mut next = from;
     loop {
-        let step = next_gift(commits, path, count, next);
+        let step = next_set(commits, path, count, next, &mut tags, &mut masks, &mut marks);
         let at = step.at;
-        let gift = step.gift;
         let Place::At(i) = at else {
             let range = SegmentRange::zero();
             return Missing {
@@ -126,6 +128,7 @@ fn next_item(commits: &[u8], presence: &[u8], path: Path, count: PageCount, from
             };
         };
         next = step.next;
+        let gift = step.gift;
         let f = next_frame(commits, presence, i, gift, 0);
         if f.found {
             let range = f.range;
@@ -246,10 +249,13 @@ fn count_missing(commits: &[u8], presence: &[u8], path: Path, count: PageCount) 
     ensures { λ r. ⌜ r ≡ length (missingOf (presenceIn (now (presence .entry))) (itemsFrom (now (commits .entry)) (count .0) (placesIn (path .runs)) 0)) ⌝ }
 {
     let mut none = [0u8; 1];
+    let mut tags = [0u32; 128];
+    let mut masks = [0u64; 128];
+    let mut marks = [0u64; 64];
     let mut k: usize = 0;
     let mut n: usize = 0;
     loop {
-        let step = next_gift(commits, path, count, k);
+        let step = next_set(commits, path, count, k, &mut tags, &mut masks, &mut marks);
         let at = step.at;
         let Place::At(i) = at else {
             return n;
@@ -272,10 +278,13 @@ fn put_missing(
     ensures { λ r. ⌜ (r ≡ length (missingOf (presenceIn (now (presence .entry))) (itemsFrom (now (commits .entry)) (count .0) (placesIn (path .runs)) 0))) × (r < 4294967296) ⌝ }
     ensures { λ _. ⌜ now (list .exit) ≡ put 0 (flat (partBytes .spell) (missingOf (presenceIn (now (presence .entry))) (itemsFrom (now (commits .entry)) (count .0) (placesIn (path .runs)) 0))) (now (list .entry)) ⌝ }
 {
+    let mut tags = [0u32; 128];
+    let mut masks = [0u64; 128];
+    let mut marks = [0u64; 64];
     let mut k: usize = 0;
     let mut n: usize = 0;
     loop {
-        let step = next_gift(commits, path, count, k);
+        let step = next_set(commits, path, count, k, &mut tags, &mut masks, &mut marks);
         let at = step.at;
         let Place::At(i) = at else {
             return n;

@@ -30,7 +30,7 @@ Tells held q r = r .known ≡ true → Of held q (r .mask)
 
 -- the pages that are held once a commit with these pages of window q is met
 abbrev pub andHeld : (ℕ → Bool) → ℕ → ℕ → ℕ → Bool
-andHeld held q mask p = held p || (eqb (p / 64) q && bit mask (p % 64))
+andHeld held q mask p = held p || (eqb q (p / 64) && bit mask (p % 64))
 
 -- whatever pages the notes were of, they tell so, and become those of what is held then
 abbrev pub AsNoted : ℕ → ℕ → List ℕ → List ℕ → List ℕ → List ℕ → List ℕ → List ℕ → Told → Type 0

@@ -3,3 +3,4 @@ pub mod EntryLaws
 pub mod AnswerLaws
 pub mod RowLaws
 pub mod SnapshotLaws
+pub mod Putting

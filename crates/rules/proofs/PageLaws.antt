@@ -59,12 +59,26 @@ without-lowest a b =
     ∙ ap (λ (d : ℕ). (bitXor (a / 2) (bitAnd a b / 2) * 2 + differ (a % 2) d) % 2) (and-lowest a b)
     ∙ digits-mod (bitXor (a / 2) (bitAnd a b / 2)) (low-without (a % 2) (b % 2) (omega arith) (omega arith) .0)
 
-bit-without : (a b i : ℕ) → bit (without a b) i ≡ bit a i && not (bit b i)
+-- the bits of m that k has not
+pub bit-without : (a b i : ℕ) → bit (without a b) i ≡ bit a i && not (bit b i)
 unfolding bit
 bit-without a b i =
     ap (λ (x : ℕ). eqb (x % 2) 1) (xor-shr a (bitAnd a b) i ∙ ap (λ (x : ℕ). bitXor (a / 2 ^ i) x) (and-shr a b i))
     ∙ ap (λ (x : ℕ). eqb x 1) (without-lowest (a / 2 ^ i) (b / 2 ^ i))
     ∙ low-without (a / 2 ^ i % 2) (b / 2 ^ i % 2) (omega arith) (omega arith) .1
+
+-- a mask without what lies above page n
+pub bit-upTo : (n q m b : ℕ) → b < 64 → bit (upTo n q m) b ≡ bit m b && leb (q * 64 + b) n
+bit-upTo n q m b l =
+    cases (ltb q (n / 64))
+    (λ h. rw (h, le-leb (q * 64 + b) n (omega (arith, ltb-true q (n / 64) h))) (sym (and-true (bit m b))))
+    (λ h. let k = ltb-false q (n / 64) h in
+    cases (eqb q (n / 64))
+    (λ e. let j = eqb-true q (n / 64) e in
+    cases (leb (q * 64 + b) n)
+    (λ u. let v = leb-true (q * 64 + b) n u in rw (h, e, u, bit-low m (suc (n % 64)) b (omega arith)) (sym (and-true (bit m b))))
+    (λ u. let v = leb-false (q * 64 + b) n u in rw (h, e, u, bit-high m (suc (n % 64)) b (omega arith)) (sym (and-false (bit m b)))))
+    (λ e. let j = eqb-false q (n / 64) e in rw (h, e, lt-leb (q * 64 + b) n (omega (arith, j)), bit-none b) (sym (and-false (bit m b)))))
 
 -- ---- windows that rise
 pub rising-weaken : (a b : ℕ) (s : Pages) → a ≤ b → rising b s ≡ true → rising a s ≡ true
@@ -110,17 +124,8 @@ module _ (lo : ℕ) (s : Pages) (up : rising lo s ≡ true) where
   pub holds-truncated : (n p : ℕ) → holds (truncated s n) p ≡ holds s p && leb p n
   unfolding holds truncated
   holds-truncated n p =
-      rw (mask-masked (upTo n) lo (p / 64) s (top n (p / 64)) up)
-      (cases (ltb (p / 64) (n / 64))
-      (λ h. rw (h, le-leb p n (omega (arith, ltb-true (p / 64) (n / 64) h))) (sym (and-true (bit (maskAt s (p / 64)) (p % 64)))))
-      (λ h. let k = ltb-false (p / 64) (n / 64) h in
-      cases (eqb (p / 64) (n / 64))
-      (λ e. let j = eqb-true (p / 64) (n / 64) e in
-      cases (leb p n)
-      (λ l. let u = leb-true p n l in rw (h, e, l, bit-low (maskAt s (p / 64)) (suc (n % 64)) (p % 64) (omega arith)) (sym (and-true (bit (maskAt s (p / 64)) (p % 64)))))
-      (λ l. let u = leb-false p n l in rw (h, e, l, bit-high (maskAt s (p / 64)) (suc (n % 64)) (p % 64) (omega arith)) (sym (and-false (bit (maskAt s (p / 64)) (p % 64))))))
-      (λ e. let j = eqb-false (p / 64) (n / 64) e in
-      rw (h, e, lt-leb p n (omega (arith, j)), bit-none (p % 64)) (sym (and-false (bit (maskAt s (p / 64)) (p % 64)))))))
+      let z : p / 64 * 64 + p % 64 ≡ p = omega arith in
+      rw (mask-masked (upTo n) lo (p / 64) s (top n (p / 64)) up) (bit-upTo n (p / 64) (maskAt s (p / 64)) (p % 64) (omega arith) ∙ ap (λ (x : ℕ). bit (maskAt s (p / 64)) (p % 64) && leb x n) z)
     where
       top : (n q : ℕ) → upTo n q 0 ≡ 0
       top n q = cases (ltb q (n / 64)) (λ h. rw h) (λ h. cases (eqb q (n / 64)) (λ e. rw (h, e) (zero-mod (2 ^ suc (n % 64)))) (λ e. rw (h, e)))

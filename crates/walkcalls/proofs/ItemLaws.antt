@@ -11,8 +11,7 @@ use lib.ListN.{length, length-append, length-replicate}
 use Rattle.octets.specs.Bytes.{bytesOf, part, put}
 use Rattle.octets.proofs.Numbers as N
 use Rattle.octets.proofs.Places as P
-use Rattle.pageset.specs.declared.PageSet.{PageSet}
-use Rattle.pageset.specs.Sets.{shown, normalForm, normal}
+use Rattle.pageset.specs.Sets.{normalForm}
 use Rattle.rules.specs.Lists.{given, isSome}
 use Rattle.rules.specs.Records.{Hash, Pages, Segment, Commit}
 use Rattle.rules.specs.Forms.{bytesForm, idForm, hashForm, segmentForm, commitForm}
@@ -24,7 +23,6 @@ use Rattle.layout.specs.Values.{windowBytes, setBytes, frameBytes, framesBytes,
 use Rattle.layout.specs.Records.{logLsnBytes, hashBytes, commitBytes}
 use Rattle.layout.specs.Tables.{commitsOk}
 use Rattle.layout.proofs.FormHolds.{segment-held, set-held}
-use Rattle.setbytes.proofs.LaidLaws.{shown-form}
 use Rattle.commitbytes.proofs.CommitLaws.{commit-at}
 use Rattle.commitbytes.proofs.PartLaws.{key-long}
 use Rattle.rows.proofs.Checks.{row-in, row-form, row-spelled}
@@ -159,14 +157,14 @@ module _ (x : Item) (i : length (x .log) ≡ 16) (s : length (segmentBytes .spel
 
 -- ---- the item of a row, stored as code stores it
 
-module _ (t : List ℕ) (ok : commitsOk t ≡ true) (i : ℕ) (l : i < countOf t) (has : isSome (commitAt t i .segment) ≡ true) (g : PageSet) (n : normal g ≡ true) where
-  pub row-long : length (itemBytes .spell (itemAt t i (shown g))) ≡ 1003
-  row-long = item-long (itemAt t i (shown g)) (log-long t ok i l) (spelled-long t ok i l has) (shown-form g n)
+module _ (t : List ℕ) (ok : commitsOk t ≡ true) (i : ℕ) (l : i < countOf t) (has : isSome (commitAt t i .segment) ≡ true) (g : Pages) (n : normalForm g ≡ true) where
+  pub row-long : length (itemBytes .spell (itemAt t i g)) ≡ 1003
+  row-long = item-long (itemAt t i g) (log-long t ok i l) (spelled-long t ok i l has) n
 
   pub row-stored : (from lsn at : ℕ) (b x y z w : List ℕ) → from ≡ 2 + i * 722 → lsn ≡ commitAt t i .lsn → at + 1003 ≤ length b → x ≡ put at (part (from + 1) 16 t) b → y ≡ put (at + 16) (bytesOf 8 lsn) x
-      → z ≡ put (at + 24) (part (from + 63) 594 t) y → w ≡ put (at + 618) (setBytes .spell (shown g)) z → w ≡ put at (itemBytes .spell (itemAt t i (shown g))) b
+      → z ≡ put (at + 24) (part (from + 63) 594 t) y → w ≡ put (at + 618) (setBytes .spell g) z → w ≡ put at (itemBytes .spell (itemAt t i g)) b
   row-stored from lsn at b x y z w e m h p q r v =
-      item-stored (itemAt t i (shown g)) (log-long t ok i l) (spelled-long t ok i l has) (shown-form g n) at b x y z w h
+      item-stored (itemAt t i g) (log-long t ok i l) (spelled-long t ok i l has) n at b x y z w h
       (p ∙ ap (λ (s : List ℕ). put at s b) (row-log t ok i l from e))
       (q ∙ ap (λ (k : ℕ). put (at + 16) (bytesOf 8 k) x) m)
       (r ∙ ap (λ (s : List ℕ). put (at + 24) s y) (row-segment t ok i l has from e))

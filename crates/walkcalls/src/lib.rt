@@ -10,12 +10,11 @@ use gifts::next_gift;
 use gifts::paths::Path;
 use gifts::paths::at_most;
 use gifts::paths::path_of;
+use gifts::put_gift;
 use layout::SEGMENT;
 use octets::store64;
-use pageset::PageSet;
 use resultlists::copy;
 use resultlists::snapshot_code;
-use setbytes::set_write;
 ghost use mathlib.Core.Path.{_≡_};
 ghost use mathlib.Core.Bool.{true};
 ghost use Prim.Native.Nat.{_+_, _/_, _<_, _≤_};
@@ -23,13 +22,15 @@ ghost use lib.Dec.{leb};
 ghost use lib.ListN.{length};
 ghost use Rattle.octets.specs.Bytes.{put};
 ghost use Rattle.octets.specs.Flat.{flat};
-ghost use Rattle.pageset.specs.Sets.{shown, normal};
+ghost use Rattle.pageset.specs.Sets.{normalForm};
 ghost use Rattle.rules.specs.Lists.{isSome};
+ghost use Rattle.rules.specs.Write.{pagesOf};
 ghost use Rattle.rules.specs.Walk.{walk as walkRule};
 ghost use Rattle.table.specs.Table.{countOf};
 ghost use Rattle.layout.specs.Tables.{commitsIn, commitsOk};
 ghost use Rattle.layout.specs.Lent.{lent};
 ghost use Rattle.commits.specs.Places.{commitAt};
+ghost use Rattle.masks.specs.Masks.{given};
 ghost use Rattle.gifts.specs.Paths.{placesIn, Inside};
 ghost use Rattle.gifts.specs.Steps.{itemAt, itemsFrom};
 ghost use Rattle.resultlists.specs.Lists.{slotsIn, listLeft};
@@ -39,17 +40,17 @@ ghost use Rattle.walkcalls.specs.Items.{itemBytes};
 // An entry of the list: log, LSN, segment, gift.
 const ITEM: usize = 1003;
 
-// The item of record i, whose segment is there, and its gift, over the entry at a place of the list.
-fn put_item(list: &mut [u8], at: usize, commits: &[u8], i: usize, gift: PageSet)
+// The item of record i, whose segment is there, and its gift, which is given by masks, over the entry at a place of the list.
+fn put_item(list: &mut [u8], at: usize, commits: &[u8], i: usize, left: &[u64])
     requires { ⌜ (commitsOk (now commits) ≡ true) × (i < countOf (now commits)) × (isSome (commitAt (now commits) i .segment) ≡ true) ⌝ }
-    requires { ⌜ (normal gift ≡ true) × (at + 1003 ≤ length (now list)) ⌝ }
-    ensures { λ _. ⌜ now (list .exit) ≡ put at (itemBytes .spell (itemAt (now (commits .entry)) i (shown gift))) (now (list .entry)) ⌝ }
+    requires { ⌜ (normalForm (given (pagesOf (commitAt (now commits) i .segment)) (now left)) ≡ true) × (length (now left) ≡ 32) × (at + 1003 ≤ length (now list)) ⌝ }
+    ensures { λ _. ⌜ now (list .exit) ≡ put at (itemBytes .spell (itemAt (now (commits .entry)) i (given (pagesOf (commitAt (now (commits .entry)) i .segment)) (now (left .entry))))) (now (list .entry)) ⌝ }
 {
     let from = row(commits, i);
     copy(list, at, commits, from + 1, 16);
     store64(list, at + 16, lsn_at(commits, i));
     copy(list, at + 24, commits, from + 63, SEGMENT);
-    set_write(list, at + 618, gift);
+    put_gift(list, at + 618, commits, i, left);
 }
 
 // How many items the walk of a path has.
@@ -57,10 +58,14 @@ fn count_items(commits: &[u8], path: Path, count: PageCount) -> usize
     requires { ⌜ (commitsOk (now commits) ≡ true) × Inside (now commits) (placesIn (path .runs)) ⌝ }
     ensures { λ r. ⌜ r ≡ length (itemsFrom (now (commits .entry)) (count .0) (placesIn (path .runs)) 0) ⌝ }
 {
+    let mut tags = [0u32; 128];
+    let mut masks = [0u64; 128];
+    let mut marks = [0u64; 64];
+    let mut left = [0u64; 32];
     let mut k: usize = 0;
     let mut n: usize = 0;
     loop {
-        let step = next_gift(commits, path, count, k);
+        let step = next_gift(commits, path, count, k, &mut tags, &mut masks, &mut marks, &mut left);
         let at = step.at;
         let Place::At(_) = at else {
             return n;
@@ -88,16 +93,19 @@ fn put_items(commits: &[u8], path: Path, count: PageCount, list: &mut [u8]) -> u
     ensures { λ r. ⌜ (r ≡ length (itemsFrom (now (commits .entry)) (count .0) (placesIn (path .runs)) 0)) × (r ≤ 524280) ⌝ }
     ensures { λ _. ⌜ now (list .exit) ≡ put 0 (flat (itemBytes .spell) (itemsFrom (now (commits .entry)) (count .0) (placesIn (path .runs)) 0)) (now (list .entry)) ⌝ }
 {
+    let mut tags = [0u32; 128];
+    let mut masks = [0u64; 128];
+    let mut marks = [0u64; 64];
+    let mut left = [0u64; 32];
     let mut k: usize = 0;
     let mut n: usize = 0;
     loop {
-        let step = next_gift(commits, path, count, k);
+        let step = next_gift(commits, path, count, k, &mut tags, &mut masks, &mut marks, &mut left);
         let at = step.at;
         let Place::At(i) = at else {
             return n;
         };
-        let gift = step.gift;
-        put_item(list, n * ITEM, commits, i, gift);
+        put_item(list, n * ITEM, commits, i, &left);
         n += 1;
         k = step.next;
     }

@@ -11,7 +11,7 @@ use Rattle.layout.specs.Tables.{presenceIn}
 use Rattle.gifts.specs.Paths.{placesIn}
 use Rattle.gifts.specs.Steps.{itemsFrom}
 use Rattle.gifts.proofs.WalkLaws.{step-found, step-none}
-use Rattle.walkcalls.proofs.Putting.{Putting, put-start, put-length, put-number, put-all}
+use Rattle.resultlists.proofs.Putting.{Putting, put-start, put-length, put-number, put-all}
 use Rattle.missingcalls.specs.Cursors.{framesAt, framesLeft}
 use Rattle.missingcalls.proofs.CursorLaws.{item-left, missing-few}
 use Rattle.missingcalls.proofs.PutLaws.{run-few, put-run}

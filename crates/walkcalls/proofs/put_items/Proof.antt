@@ -10,7 +10,7 @@ use Rattle.gifts.proofs.WalkLaws.{step-found, step-none, items-few}
 use Rattle.pageset.specs.Sets.{shown}
 use Rattle.walkcalls.specs.Items.{itemBytes}
 use Rattle.walkcalls.proofs.ItemLaws.{row-long}
-use Rattle.walkcalls.proofs.Putting.{Putting, put-start, put-room, put-next, put-length, put-number, put-all}
+use Rattle.resultlists.proofs.Putting.{Putting, put-start, put-room, put-next, put-length, put-number, put-all}
 use Rattle.walkcalls.proofs.put_items.Statement.{statement}
 use Rattle.walkcalls.proofs.put_items.Tie as tie
 
