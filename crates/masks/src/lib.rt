@@ -4,14 +4,13 @@ use octets::load64;
 use octets::store8;
 use octets::store32;
 use octets::store64;
-use pageset::bits::span_mask;
 ghost use mathlib.Core.Path.{_≡_};
 ghost use mathlib.Core.Bool.{true};
-ghost use Prim.Native.Nat.{_+_, _-_, _*_, _<_, _≤_};
+ghost use Prim.Native.Nat.{_+_, _*_, _<_, _≤_};
 ghost use lib.ListN.{length, replicate};
 ghost use Rattle.octets.specs.Bytes.{put};
 ghost use Rattle.octets.specs.Flat.{flat};
-ghost use Rattle.pageset.specs.Sets.{rising, zeroWindow};
+ghost use Rattle.pageset.specs.Sets.{rising};
 ghost use Rattle.rules.specs.Pages.{upTo};
 ghost use Rattle.layout.specs.Values.{windowBytes, setBytes};
 ghost use Rattle.setbytes.specs.Laid.{windowsAt};
@@ -25,7 +24,10 @@ pub fn kept(index: u32, mask: u64, count: u32) -> u64
     if index < count / 64 {
         return mask;
     }
-    mask & span_mask(index, 1, count)
+    if count / 64 < index {
+        return 0;
+    }
+    mask & (!0u64 >> (63 - count % 64))
 }
 
 // Each mask of n windows without the pages that m other windows hold. Both rise, and are walked together, the lower index first.
@@ -47,8 +49,11 @@ pub fn less(s: &[u8], at: usize, n: usize, masks: &mut [u64], other: usize, m: u
         } else {
             if x == y {
                 masks[i] = masks[i] & !load64(s, other + j * 12 + 4);
+                i += 1;
+                j += 1;
+            } else {
+                j += 1;
             }
-            j += 1;
         }
     }
 }
@@ -90,25 +95,25 @@ fn put_windows(list: &mut [u8], to: usize, s: &[u8], at: usize, n: usize, masks:
     let mut i: usize = 0;
     while i < n {
         let mask = masks[i];
+        let from = at + i * 12;
+        i += 1;
         if mask != 0 {
-            store32(list, to + w * 12, load32(s, at + i * 12));
+            store32(list, to + w * 12, load32(s, from));
             store64(list, to + w * 12 + 4, mask);
             w += 1;
         }
-        i += 1;
     }
     w
 }
 
-// Zero windows over n places of the list.
+// Zeros over n bytes of the list.
 fn put_zeros(list: &mut [u8], to: usize, n: usize)
-    requires { ⌜ (to + n * 12 ≤ length (now list)) × (n ≤ 32) ⌝ }
-    ensures { λ _. ⌜ now (list .exit) ≡ put to (flat (windowBytes .spell) (replicate n zeroWindow)) (now (list .entry)) ⌝ }
+    requires { ⌜ to + n ≤ length (now list) ⌝ }
+    ensures { λ _. ⌜ now (list .exit) ≡ put to (replicate n 0) (now (list .entry)) ⌝ }
 {
     let mut i: usize = 0;
     while i < n {
-        store32(list, to + i * 12, 0);
-        store64(list, to + i * 12 + 4, 0);
+        list[to + i] = 0;
         i += 1;
     }
 }
@@ -119,6 +124,6 @@ pub fn put_given(list: &mut [u8], to: usize, s: &[u8], at: usize, n: usize, mask
     ensures { λ _. ⌜ now (list .exit) ≡ put to (setBytes .spell (given (windowsAt n at (now (s .entry))) (now (masks .entry)))) (now (list .entry)) ⌝ }
 {
     let w = put_windows(list, to + 1, s, at, n, masks);
-    put_zeros(list, to + 1 + w * 12, 32 - w);
+    put_zeros(list, to + 1 + w * 12, (32 - w) * 12);
     store8(list, to, w as u8);
 }

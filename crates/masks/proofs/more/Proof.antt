@@ -1,61 +1,59 @@
+-- What is done of the masks, with what the others that are left make of the rest, is what all others make of all masks. The measure is the masks that are left.
+use Prim.Native.Nat.{ℕ, _-_, _≤_}
+use mathlib.Core.Path.{_≡_, sym, ap, _∙_}
+use native.Mathlib.Omega.{arith}
+use lib.ListN.{length, length-set}
+use Rattle.masks.specs.Masks.{moreMasks}
+use Rattle.masks.proofs.MaskLaws.{moreFrom, more-done, more-turn}
 use Rattle.masks.proofs.more.Statement.{statement}
 use Rattle.masks.proofs.more.Tie as tie
-use Rattle.masks.proofs.more.Reads as reads
-use Rattle.masks.proofs.more.Lts as lts
 
 abbrev Inv-loop : tie.InvT-loop
-Inv-loop masks₀ others n i₀ masks i = ?
+Inv-loop masks₀ others n i₀ masks i = (i ≤ n) × (length masks ≡ 32) × (moreFrom n others i masks ≡ moreMasks n masks₀ others)
 
 abbrev μ-loop : tie.MeasureT-loop
-μ-loop masks₀ others n i₀ masks i = ?
+μ-loop masks₀ others n i₀ masks i = n - i
 
--- src/lib.rt:77:5
 loop-holds : tie.Need-loop-holds Inv-loop μ-loop
-loop-holds c = ?
+loop-holds c =
+    let e : c .args .n - 0 ≡ c .args .n = omega arith in
+    (omega arith, omega arith, ap (λ (k : ℕ). moreMasks k (c .args .masks .now) (c .args .others .now)) e)
 
--- src/lib.rt:78:20
 mul-masks : tie.Need-mul-masks Inv-loop μ-loop
-mul-masks c = ?
+mul-masks c = omega arith
 
--- src/lib.rt:78:20
 slice-read-masks : tie.Need-slice-read-masks Inv-loop μ-loop
-slice-read-masks c = ?
+slice-read-masks c = omega arith
 
--- src/lib.rt:78:31
 mul-masks-2 : tie.Need-mul-masks-2 Inv-loop μ-loop
-mul-masks-2 c = ?
+mul-masks-2 c = omega arith
 
--- src/lib.rt:78:31
 shared-slice-read-masks : tie.Need-shared-slice-read-masks Inv-loop μ-loop
-shared-slice-read-masks c = ?
+shared-slice-read-masks c = omega arith
 
--- src/lib.rt:78:9
 mul-masks-3 : tie.Need-mul-masks-3 Inv-loop μ-loop
-mul-masks-3 c = ?
+mul-masks-3 c = omega arith
 
--- src/lib.rt:78:9
 slice-write-masks : tie.Need-slice-write-masks Inv-loop μ-loop
-slice-write-masks c = ?
+slice-write-masks c = omega arith
 
--- src/lib.rt:79:9
 add-i : tie.Need-add-i Inv-loop μ-loop
-add-i c = ?
+add-i c = omega arith
 
--- src/lib.rt:77:5
 loop-less : tie.Need-loop-less Inv-loop μ-loop
-loop-less c = ?
+loop-less c = omega arith
 
--- src/lib.rt:77:5
 loop-again : tie.Need-loop-again Inv-loop μ-loop
-loop-again c = ?
+loop-again c =
+    let a = c .before .before .before .before .args in
+    let l = c .before .before .before .loop in
+    (omega arith, simp length-set (l .inv .1), more-turn (a .n) (a .others .now) (l .i) (l .masks) (omega arith) (omega arith) (omega arith) ∙ l .inv .2)
 
--- src/lib.rt:72:1
 same-length : tie.Need-same-length Inv-loop μ-loop
-same-length c = ?
+same-length c = omega arith
 
--- src/lib.rt:72:1
 returns : tie.Need-returns Inv-loop μ-loop
-returns c = ?
+returns c = sym (more-done (c .before .before .args .n) (c .before .before .args .others .now) (c .before .loop .i) (c .before .loop .masks) (omega arith)) ∙ c .before .loop .inv .2
 
 pub more-spec : {M : Type 1} → statement M
 more-spec =

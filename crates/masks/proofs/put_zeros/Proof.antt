@@ -1,67 +1,48 @@
+-- The list has zeros over the first i bytes. The measure is the bytes that are left.
+use Prim.Native.Nat.{ℕ, _-_, _≤_}
+use mathlib.Core.Path.{_≡_, sym, ap, _∙_}
+use native.Mathlib.Omega.{arith}
+use lib.ListN.{length, replicate, length-set}
+use Rattle.octets.specs.Bytes.{put}
+use Rattle.octets.proofs.Places.{put-none}
+use Rattle.masks.proofs.PutLaws.{zero-put}
 use Rattle.masks.proofs.put_zeros.Statement.{statement}
 use Rattle.masks.proofs.put_zeros.Tie as tie
-use Rattle.masks.proofs.put_zeros.Reads as reads
-use Rattle.masks.proofs.put_zeros.Lts as lts
-use Rattle.octets.proofs.store32.Reads as store32-reads
-use Rattle.octets.proofs.store64.Reads as store64-reads
 
 abbrev Inv-loop : tie.InvT-loop
-Inv-loop list₀ to n i₀ list i = ?
+Inv-loop list₀ to n i₀ list i = (i ≤ n) × (length list ≡ length list₀) × (list ≡ put to (replicate i 0) list₀)
 
 abbrev μ-loop : tie.MeasureT-loop
-μ-loop list₀ to n i₀ list i = ?
+μ-loop list₀ to n i₀ list i = n - i
 
--- src/lib.rt:109:5
 loop-holds : tie.Need-loop-holds Inv-loop μ-loop
-loop-holds c = ?
+loop-holds c = (omega arith, omega arith, sym (put-none (c .args .to) (c .args .list .now)))
 
--- src/lib.rt:110:28
-mul-store32 : tie.Need-mul-store32 Inv-loop μ-loop
-mul-store32 c = ?
+add-list : tie.Need-add-list Inv-loop μ-loop
+add-list c = omega arith
 
--- src/lib.rt:110:23
-add-store32 : tie.Need-add-store32 Inv-loop μ-loop
-add-store32 c = ?
+slice-write-list : tie.Need-slice-write-list Inv-loop μ-loop
+slice-write-list c = omega arith
 
--- src/lib.rt:110:9
-store32-requires : tie.Need-store32-requires Inv-loop μ-loop
-store32-requires c κs = ?
-
--- src/lib.rt:111:28
-mul-store64 : tie.Need-mul-store64 Inv-loop μ-loop
-mul-store64 c = ?
-
--- src/lib.rt:111:23
-add-store64 : tie.Need-add-store64 Inv-loop μ-loop
-add-store64 c = ?
-
--- src/lib.rt:111:23
-add-store64-2 : tie.Need-add-store64-2 Inv-loop μ-loop
-add-store64-2 c = ?
-
--- src/lib.rt:111:9
-store64-requires : tie.Need-store64-requires Inv-loop μ-loop
-store64-requires c κs = ?
-
--- src/lib.rt:112:9
 add-i : tie.Need-add-i Inv-loop μ-loop
-add-i c = ?
+add-i c = omega arith
 
--- src/lib.rt:109:5
 loop-less : tie.Need-loop-less Inv-loop μ-loop
-loop-less c = ?
+loop-less c = omega arith
 
--- src/lib.rt:109:5
 loop-again : tie.Need-loop-again Inv-loop μ-loop
-loop-again c = ?
+loop-again c =
+    let a = c .before .before .args in
+    let l = c .before .loop in
+    (omega arith, simp length-set (l .inv .1), zero-put (a .to) (l .i) (a .list .now) (l .list) (omega arith) (l .inv .2))
 
--- src/lib.rt:104:1
 same-length : tie.Need-same-length Inv-loop μ-loop
-same-length c = ?
+same-length c = omega arith
 
--- src/lib.rt:104:1
 returns : tie.Need-returns Inv-loop μ-loop
-returns c = ?
+returns c =
+    let e : c .before .loop .i ≡ c .before .before .args .n = omega arith in
+    c .before .loop .inv .2 ∙ ap (λ (k : ℕ). put (c .before .before .args .to) (replicate k 0) (c .before .before .args .list .now)) e
 
 pub put-zeros-spec : {M : Type 1} → statement M
 put-zeros-spec =
@@ -70,13 +51,8 @@ put-zeros-spec =
     Inv-loop
     μ-loop
     loop-holds
-    mul-store32
-    add-store32
-    store32-requires
-    mul-store64
-    add-store64
-    add-store64-2
-    store64-requires
+    add-list
+    slice-write-list
     add-i
     loop-less
     loop-again
