@@ -8,7 +8,7 @@ use mathlib.Core.Bool.{Bool, true, false, not, _&&_, _||_, and-true}
 use native.Mathlib.Omega.{arith}
 use native.Mathlib.Decide.{decLt}
 use borrow.Author.Tests.{leb-true, ltb-true, eqb-true, ne-eqb}
-use lib.Bits.{bitAnd, and-le-l, xor-lt, xor-zero-l, xor-zero-r, and-zero-l, and-zero-r}
+use lib.Bits.{bitAnd, and-le-l, xor-lt, xor-zero-l, and-zero-l}
 use lib.Dec.{eqb, leb, ltb}
 use lib.ListN.{length, getD}
 use Rattle.pageset.specs.Sets.{bit, maskAt, holds, rising, windowForm, windowForms, normalForm, zeroWindow}
@@ -24,6 +24,7 @@ use Rattle.masks.specs.Masks.{lessMasks, noMasks}
 use Rattle.masks.proofs.GivenLaws.{less-at, length-less, holds-at}
 use Rattle.table.specs.Table.{countOf}
 use Rattle.layout.specs.Tables.{commitsOk}
+use Rattle.masks.proofs.MaskLaws.{without-none}
 use Rattle.rows.specs.Lookups.{nth}
 use Rattle.commits.specs.Places.{commitAt}
 use Rattle.commits.specs.declared.Place.{Place}
@@ -59,9 +60,6 @@ module _ (count : ℕ) (cs : List Commit) (c : Commit) (e : normalForm (pagesOf 
       ∙ ap (λ (b : Bool). b && not (heldBy cs p)) (holds-truncated 0 (pagesOf (c .segment)) (form-rising (pagesOf (c .segment)) e) count p)
 
 -- ---- masks without the pages of a commit
-
-without-none : (m : ℕ) → without m 0 ≡ m
-without-none m = rw (and-zero-r m) (xor-zero-r m)
 
 none-without : (k : ℕ) → without 0 k ≡ 0
 none-without k = rw (and-zero-l k) (xor-zero-l 0)

@@ -169,7 +169,17 @@ fn make_gift(
     let at = row(commits, i) + 79;
     let n = count_read(commits, at, 32);
     let mut ask = [0u64; 32];
-    sort_out(commits, at + 1, n, count, tags, masks, marks, left, &mut ask);
+    sort_out(
+        commits,
+        at + 1,
+        n,
+        count,
+        tags,
+        masks,
+        marks,
+        left,
+        &mut ask,
+    );
     if !none_left(&ask, n) {
         ask_all(commits, path, k, at + 1, n, &mut ask);
         more(left, &ask, n);

@@ -113,7 +113,7 @@ unfolding normalForm
 form-rises s e = rises-fact 0 s (search (and-fst, and-snd)) (search (and-fst, and-snd))
 
 -- page b of the window of index q
-holds-at : (s : Pages) (q b : ℕ) → b < 64 → holds s (q * 64 + b) ≡ bit (maskAt s q) b
+pub holds-at : (s : Pages) (q b : ℕ) → b < 64 → holds s (q * 64 + b) ≡ bit (maskAt s q) b
 unfolding holds
 holds-at s q b h =
     let d : (q * 64 + b) / 64 ≡ q = omega arith in

@@ -3,24 +3,24 @@
 use Prim.Native.Nat.{ℕ, zero, suc, _+_, _*_, _-_, _/_, _%_, _^_, _≤_, _<_}
 use mathlib.Core.Path.{_≡_, refl, sym, ap, ap₂, _∙_}
 use mathlib.Core.List.{List, [], _∷_, _++_, append-assoc}
-use mathlib.Core.Bool.{Bool, true, false, cond, not, _&&_}
+use mathlib.Core.Bool.{Bool, true, false, _&&_}
 use native.Mathlib.Omega.{arith}
 use native.Mathlib.Numerals.{add-one}
 use borrow.Author.Tests.{leb-true, le-leb, lt-ltb, le-ltb, eq-eqb, ne-eqb}
 use lib.Bits.{bitAnd, bitOr, bitXor, and-lt, xor-lt, and-mask, and-zero-r, xor-zero-r}
-use lib.Dec.{leb, ltb}
+use lib.Dec.{leb}
 use lib.ListN.{length, getD, take, drop, set, take-append-drop, drop-of-length-le}
 use lib.Pow.{ones-sub-lt, ones-split, ones-lt, high}
 use lib.Seq.{take-suc, take-suc-set, drop-cons, drop-set-lt}
 use Rattle.octets.specs.Bytes.{be, part}
 use Rattle.pageset.specs.declared.Window.{Window}
-use Rattle.pageset.specs.Sets.{bit, maskAt, holds, rising, zeroWindow}
-use Rattle.pageset.proofs.BitLaws.{bit-none, bit-and, bit-not, bit-ext}
+use Rattle.pageset.specs.Sets.{bit, maskAt, rising, zeroWindow}
+use Rattle.pageset.proofs.BitLaws.{bit-and, bit-not, bit-ext}
 use Rattle.pageset.proofs.WindowLaws.{mask-same, mask-other}
 use Rattle.rules.specs.Records.{Pages}
-use Rattle.rules.specs.Pages.{masked, upTo, without, minus}
+use Rattle.rules.specs.Pages.{upTo, without}
 use Rattle.rules.proofs.TableLaws.{and-fst, and-snd, and-both}
-use Rattle.rules.proofs.PageLaws.{mask-below, rising-weaken, holds-empty, holds-minus}
+use Rattle.rules.proofs.PageLaws.{mask-below, rising-weaken, bit-without}
 use Rattle.setbytes.specs.Laid.{windowsAt}
 use Rattle.setbytes.proofs.SetLaws.{length-windows, window-nth}
 use Rattle.setbytes.proofs.WindowLaws.{window-at}
@@ -28,33 +28,13 @@ use Rattle.masks.specs.Masks.{lessMasks, moreMasks, noMasks}
 
 -- ---- bits
 
--- a set of one window, of index 0
-abbrev only : ℕ → Pages
-only m = record { index = 0; mask = m } ∷ []
-
-holds-only : (m b : ℕ) → b < 64 → holds (only m) b ≡ bit m b
-unfolding holds maskAt
-holds-only m b h =
-    let d : b / 64 ≡ 0 = omega arith in
-    let r : b % 64 ≡ b = omega arith in
-    rw (d, r)
-
-holds-left : (m b : ℕ) → b < 64 → holds (cond (ltb 0 m) (only m) []) b ≡ bit m b
-holds-left zero b h = holds-empty b ∙ sym (bit-none b)
-holds-left (suc m) b h = rw (lt-ltb 0 (suc m) (omega arith)) (holds-only (suc m) b h)
-
--- what m has and k has not
-pub bit-without : (m k b : ℕ) → b < 64 → bit (without m k) b ≡ bit m b && not (bit k b)
-unfolding rising minus masked maskAt
-bit-without m k b h = sym (holds-left (without m k) b h) ∙ holds-minus 0 (only m) refl (only k) b ∙ ap₂ (λ (x y : Bool). x && not y) (holds-only m b h) (holds-only k b h)
-
 -- `m & !k`
 pub and-not : (m k : ℕ) → m < 2 ^ 64 → k < 2 ^ 64 → bitAnd m ((2 ^ 64 - 1) - k) ≡ without m k
 and-not m k h l =
     bit-ext 64 (bitAnd m ((2 ^ 64 - 1) - k)) (without m k) (and-lt 64 m ((2 ^ 64 - 1) - k) h (ones-sub-lt 64 k)) (xor-lt 64 m (bitAnd m k) h (and-lt 64 m k h l)) (λ b j.
-    bit-and m ((2 ^ 64 - 1) - k) b ∙ ap (λ (x : Bool). bit m b && x) (bit-not 64 b k j l) ∙ sym (bit-without m k b j))
+    bit-and m ((2 ^ 64 - 1) - k) b ∙ ap (λ (x : Bool). bit m b && x) (bit-not 64 b k j l) ∙ sym (bit-without m k b))
 
-without-none : (m : ℕ) → without m 0 ≡ m
+pub without-none : (m : ℕ) → without m 0 ≡ m
 without-none m = ap (bitXor m) (and-zero-r m) ∙ xor-zero-r m
 
 -- ---- a mask cut at a count

@@ -18,7 +18,6 @@ ghost use Rattle.masks.specs.Masks.{given, lessMasks, moreMasks, noMasks
 
 // The mask of a window, without what lies above a page count.
 pub fn kept(index: u32, mask: u64, count: u32) -> u64
-    requires { ⌜ index < 67108864 ⌝ }
     ensures { λ r. ⌜ r ≡ upTo count index mask ⌝ }
 {
     if index < count / 64 {

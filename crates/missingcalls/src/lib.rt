@@ -117,7 +117,15 @@ fn next_item(commits: &[u8], presence: &[u8], path: Path, count: PageCount, from
     let mut marks = [18446744073709551615u64; 64];
     let mut next = from;
     loop {
-        let step = next_set(commits, path, count, next, &mut tags, &mut masks, &mut marks);
+        let step = next_set(
+            commits,
+            path,
+            count,
+            next,
+            &mut tags,
+            &mut masks,
+            &mut marks,
+        );
         let at = step.at;
         let Place::At(i) = at else {
             let range = SegmentRange::zero();

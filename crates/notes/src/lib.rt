@@ -13,13 +13,7 @@ pub struct Told {
 }
 
 // Notes that a commit holds these pages of a window, and tells what was known of the window before. A window that was not met yet moves into its place.
-pub fn note(
-    tags: &mut [u32],
-    masks: &mut [u64],
-    marks: &mut [u64],
-    index: u32,
-    mask: u64,
-) -> Told
+pub fn note(tags: &mut [u32], masks: &mut [u64], marks: &mut [u64], index: u32, mask: u64) -> Told
     requires { ⌜ (length (now tags) ≡ 128) × (length (now masks) ≡ 128) × (length (now marks) ≡ 64) ⌝ }
     ensures { λ r. ⌜ AsNoted index mask (now (tags .entry)) (now (masks .entry)) (now (marks .entry)) (now (tags .exit)) (now (masks .exit)) (now (marks .exit)) r ⌝ }
 {

@@ -65,7 +65,16 @@ fn count_items(commits: &[u8], path: Path, count: PageCount) -> usize
     let mut k: usize = 0;
     let mut n: usize = 0;
     loop {
-        let step = next_gift(commits, path, count, k, &mut tags, &mut masks, &mut marks, &mut left);
+        let step = next_gift(
+            commits,
+            path,
+            count,
+            k,
+            &mut tags,
+            &mut masks,
+            &mut marks,
+            &mut left,
+        );
         let at = step.at;
         let Place::At(_) = at else {
             return n;
@@ -100,7 +109,16 @@ fn put_items(commits: &[u8], path: Path, count: PageCount, list: &mut [u8]) -> u
     let mut k: usize = 0;
     let mut n: usize = 0;
     loop {
-        let step = next_gift(commits, path, count, k, &mut tags, &mut masks, &mut marks, &mut left);
+        let step = next_gift(
+            commits,
+            path,
+            count,
+            k,
+            &mut tags,
+            &mut masks,
+            &mut marks,
+            &mut left,
+        );
         let at = step.at;
         let Place::At(i) = at else {
             return n;
