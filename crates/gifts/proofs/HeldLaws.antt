@@ -1,7 +1,7 @@
 -- The pages that earlier commits hold, and what is left of a set without them: a gift is the pages of its commit's set, up to the page count, that are not held. Masks less the pages of all
 -- earlier commits are, bit by bit, the masks less the held pages; a commit whose windows lie apart takes nothing from them, and from masks without a page nothing can be taken.
 use Prim.Native.Nat.{ℕ, zero, suc, _+_, _*_, _/_, _%_, _^_, _<_, _≤_}
-use mathlib.Core.Path.{_≡_, refl, sym, ap, ap₂, _∙_}
+use mathlib.Core.Path.{_≡_, refl, sym, ap, ap₂, _∙_, subst}
 use mathlib.Core.List.{List, [], _∷_}
 use mathlib.Core.Option.{Option, none, some}
 use mathlib.Core.Bool.{Bool, true, false, not, _&&_, _||_, and-true}
@@ -11,19 +11,26 @@ use borrow.Author.Tests.{leb-true, ltb-true, eqb-true, ne-eqb}
 use lib.Bits.{bitAnd, and-le-l, xor-lt, xor-zero-l, and-zero-l}
 use lib.Dec.{eqb, leb, ltb}
 use lib.ListN.{length, getD}
+use Rattle.octets.specs.Bytes.{be, part}
+use Rattle.pageset.specs.declared.Window.{Window}
 use Rattle.pageset.specs.Sets.{bit, maskAt, holds, rising, windowForm, windowForms, normalForm, zeroWindow}
 use Rattle.pageset.proofs.BitLaws.{bit-none}
-use Rattle.rules.specs.Records.{Pages, Commit}
+use Rattle.rules.specs.Lists.{isSome}
+use Rattle.rules.specs.Records.{Pages, Segment, Commit}
 use Rattle.rules.specs.Pages.{truncated, without}
 use Rattle.rules.specs.Write.{pagesOf}
 use Rattle.rules.specs.Walk.{notTaken, gift}
-use Rattle.rules.proofs.TableLaws.{and-fst, and-snd}
+use Rattle.rules.proofs.TableLaws.{and-fst, and-snd, clash}
 use Rattle.rules.proofs.PageLaws.{bit-without, form-rising, holds-minus, holds-truncated}
 use Rattle.rules.proofs.PageCounts.{truncated-normal}
+use Rattle.setbytes.specs.Laid.{windowsAt}
+use Rattle.setbytes.proofs.SetLaws.{window-nth}
+use Rattle.setbytes.proofs.WindowLaws.{window-at}
 use Rattle.masks.specs.Masks.{lessMasks, noMasks}
 use Rattle.masks.proofs.GivenLaws.{less-at, length-less, holds-at}
 use Rattle.table.specs.Table.{countOf}
 use Rattle.layout.specs.Tables.{commitsOk}
+use Rattle.notes.specs.Known.{Known}
 use Rattle.masks.proofs.MaskLaws.{without-none}
 use Rattle.rows.specs.Lookups.{nth}
 use Rattle.commits.specs.Places.{commitAt}
@@ -84,10 +91,11 @@ less-empty (w ∷ ws) u (m ∷ ms) e =
     let z = eqb-true m 0 (and-fst (eqb m 0) (noMasks (length ws) ms) e) in
     ap₂ (λ (x : ℕ) (xs : List ℕ). x ∷ xs) (ap (λ (x : ℕ). without x (maskAt u (w .index))) z ∙ none-without (maskAt u (w .index)) ∙ sym z) (less-empty ws u ms (and-snd (eqb m 0) (noMasks (length ws) ms) e))
 
--- a set without windows takes nothing
-pub less-nil : (ws : Pages) (ms : List ℕ) → length ws ≤ length ms → lessMasks ws [] ms ≡ ms
+-- a segment that is missing takes nothing
+pub less-missing : (ws : Pages) (o : Option Segment) (ms : List ℕ) → isSome o ≡ false → length ws ≤ length ms → lessMasks ws (pagesOf o) ms ≡ ms
 unfolding maskAt
-less-nil ws ms l = less-none ws [] ms (λ i h. refl) l
+less-missing ws none ms e l = less-none ws [] ms (λ i h. refl) l
+less-missing ws (some s) ms e l = absurd (clash refl e)
 
 -- windows that rise lie from the first to the last
 from-first : (lo : ℕ) (ws : Pages) (i : ℕ) → rising lo ws ≡ true → i < length ws → lo ≤ getD ws i zeroWindow .index
@@ -106,6 +114,10 @@ in-order lo (w ∷ ws) i zero e h l = absurd (omega arith)
 in-order lo (w ∷ ws) zero (suc j) e h l =
     let r = from-first (w .index + 1) ws j (and-snd (leb lo (w .index)) (rising (w .index + 1) ws) e) (omega arith) in omega arith
 in-order lo (w ∷ ws) (suc i) (suc j) e h l = in-order (w .index + 1) ws i j (and-snd (leb lo (w .index)) (rising (w .index + 1) ws) e) (omega arith) (omega arith)
+
+-- the index of a window that stands in bytes
+pub index-at : (n at : ℕ) (t : List ℕ) (i to : ℕ) → i < n → to ≡ at + i * 12 → getD (windowsAt n at t) i zeroWindow .index ≡ be (part to 4 t)
+index-at n at t i to h e = ap (λ (w : Window). w .index) (window-nth n at t i h ∙ window-at (at + i * 12) t) ∙ ap (λ (x : ℕ). be (part x 4 t)) (sym e)
 
 -- a set that lies apart takes nothing
 pub less-apart : (ws u : Pages) (ms : List ℕ) (n lo hi : ℕ) → rising 0 ws ≡ true → length ws ≤ length ms → length ws ≡ suc n → lo ≡ getD ws 0 zeroWindow .index → hi ≡ getD ws n zeroWindow .index
@@ -195,3 +207,7 @@ held-past t ps ok inside (suc k) p h = go (placeAt k ps) refl (held-past t ps ok
         ap (λ (n : ℕ). heldBy (before n (commitsAt t ps)) p) z
         ∙ ap (λ (cs : List Commit). heldBy cs p) (before-next t ps k i e)
         ∙ ap₂ (λ (x y : Bool). x || y) r (none-past (pagesOf (commitAt t i .segment)) p (row-normal t ok i (place-below (countOf t) k i ps inside e)) h)
+
+-- notes of one commit more
+pub known-next : (t ps : List ℕ) (k i : ℕ) → placeAt k ps ≡ At i → (tags masks marks : List ℕ) → Known (heldBy (commitAt t i ∷ before k (commitsAt t ps))) tags masks marks → Known (heldBy (before (k + 1) (commitsAt t ps))) tags masks marks
+known-next t ps k i p tags masks marks h = subst (λ (cs : List Commit). Known (heldBy cs) tags masks marks) (sym (before-next t ps k i p)) h

@@ -1,27 +1,28 @@
 -- A window sorted: if the notes know it, its pages up to the count without those that are held; else all of them are to be asked for. A window's index is that of no other window of its set,
 -- so that noting the windows one after another notes the set, and what is told of a window is what was held before the set was met.
-use Prim.Native.Nat.{ℕ, zero, suc, _+_, _-_, _*_, _/_, _%_, _^_, _<_}
+use Prim.Native.Nat.{ℕ, zero, suc, _+_, _-_, _*_, _/_, _%_, _^_, _<_, _≤_}
 use mathlib.Core.Path.{_≡_, refl, sym, ap, ap₂, _∙_, subst}
 use mathlib.Core.List.{List, [], _∷_}
 use mathlib.Core.Bool.{Bool, true, false, not, _&&_, _||_, or-false}
 use native.Mathlib.Omega.{arith}
 use native.Mathlib.Decide.{ℕ-discrete}
 use borrow.Author.Tests.{eq-eqb, eqb-true, ne-eqb}
-use lib.Bits.{bitAnd}
-use lib.Dec.{eqb, leb}
-use lib.ListN.{length, getD, set, take}
-use lib.Seq.{getD-set-same, getD-set-other}
+use lib.Bits.{bitAnd, and-le-l}
+use lib.Dec.{eqb, leb, lit<}
+use lib.ListN.{length, getD, set, take, length-set}
+use lib.Seq.{getD-set-same, getD-set-other, take-length}
 use Rattle.pageset.specs.declared.Window.{Window}
 use Rattle.pageset.specs.Sets.{bit, maskAt, holds, rising, zeroWindow}
 use Rattle.pageset.proofs.BitLaws.{bit-and, bit-not, bit-none}
 use Rattle.rules.specs.Records.{Pages}
 use Rattle.rules.specs.Pages.{upTo}
 use Rattle.rules.proofs.TableLaws.{cases, and-snd}
-use Rattle.rules.proofs.PageLaws.{bit-upTo}
+use Rattle.rules.proofs.PageLaws.{bit-upTo, holds-empty}
 use Rattle.masks.proofs.GivenLaws.{holds-at}
-use Rattle.notes.specs.Known.{Of, Known, andHeld}
+use Rattle.notes.specs.declared.Told.{Told}
+use Rattle.notes.specs.Known.{Of, Known, andHeld, AsNoted}
 use Rattle.notes.proofs.NoteLaws.{known-same}
-use Rattle.gifts.specs.Held.{free, SortedAt}
+use Rattle.gifts.specs.Held.{free, Small, SortedAt, AsSorted}
 use Rattle.gifts.proofs.HeldLaws.{in-order}
 
 -- ---- a window of a set that rises
@@ -121,3 +122,71 @@ small-next i ms x s h was j g = go (ℕ-discrete j i)
     go : Dec (j ≡ i) → getD (set ms i x) j 0 < 2 ^ 64
     go (yes z) = let e = ap (λ (k : ℕ). getD (set ms i x) k 0) z ∙ getD-set-same ms i x 0 h in omega arith
     go (no n) = let e = getD-set-other ms i j x 0 n in omega (arith, was j (omega arith))
+
+-- ---- the loop
+
+-- i windows are sorted, and noted
+pub record Sorting (ws : Pages) (count : ℕ) (tags₀ masks₀ marks₀ tags masks marks left ask : List ℕ) (i : ℕ) : Type 0 where
+  pub lengths : (length tags ≡ 128) × (length masks ≡ 128) × (length marks ≡ 64)
+  pub places : (length left ≡ 32) × (length ask ≡ 32)
+  pub sorted : (held : ℕ → Bool) → Known held tags₀ masks₀ marks₀ → ((j : ℕ) → j < i → SortedAt held count ws left ask j) × Known (λ p. held p || holds (take i ws) p) tags masks marks
+  pub small : ((j : ℕ) → j < i → getD left j 0 < 2 ^ 64) × ((j : ℕ) → j < i → getD ask j 0 < 2 ^ 64)
+
+module _ (ws : Pages) (count : ℕ) (tags₀ masks₀ marks₀ : List ℕ) where
+  pub sorting-start : (left ask : List ℕ) → (length tags₀ ≡ 128) × (length masks₀ ≡ 128) × (length marks₀ ≡ 64) → (length left ≡ 32) × (length ask ≡ 32)
+      → Sorting ws count tags₀ masks₀ marks₀ tags₀ masks₀ marks₀ left ask 0
+  sorting-start left ask l m = record {
+    lengths = l;
+    places = m;
+    sorted = λ held k. (λ j h. absurd (omega arith), known-same held (λ p. held p || holds (take 0 ws) p) tags₀ masks₀ marks₀ (λ p. sym (ap (λ (b : Bool). held p || b) (holds-empty p) ∙ or-false (held p))) k);
+    small = (λ j h. absurd (omega arith), λ j h. absurd (omega arith));
+  }
+
+  module _ (tags masks marks left ask : List ℕ) (i : ℕ) (s : Sorting ws count tags₀ masks₀ marks₀ tags masks marks left ask i) where
+    pub sorting-end : i ≡ length ws → AsSorted ws count tags₀ masks₀ marks₀ tags masks marks left ask × (Small ws left × Small ws ask)
+    sorting-end e = (
+      λ held k. (λ j h. s .sorted held k .0 j (omega arith), known-same (λ p. held p || holds (take i ws) p) (λ p. held p || holds ws p) tags masks marks (λ p. ap (λ (l : Pages). held p || holds l p) (ap (λ (n : ℕ). take n ws) e ∙ take-length ws)) (s .sorted held k .1)),
+      (λ j h. s .small .0 j (omega arith), λ j h. s .small .1 j (omega arith)),
+    )
+
+    -- the next window: its index x, its mask y, its pages v up to the count, and what the notes tell of it
+    module _ (up : rising 0 ws ≡ true) (h : i < length ws) (few : length ws ≤ 32) (x y v : ℕ) (e : record { index = x; mask = y } ≡ getD ws i zeroWindow) (q : v ≡ upTo count x y) (vs : v < 2 ^ 64)
+        (tags' masks' marks' : List ℕ) (l : (length tags' ≡ 128) × (length masks' ≡ 128) × (length marks' ≡ 64)) (r : Told) (noted : AsNoted x y tags masks marks tags' masks' marks' r) where
+      abbrev here : Window
+      here = getD ws i zeroWindow
+
+      v-is : v ≡ upTo count (here .index) (here .mask)
+      v-is = q ∙ ap (λ (u : Window). upTo count (u .index) (u .mask)) e
+
+      noted-is : AsNoted (here .index) (here .mask) tags masks marks tags' masks' marks' r
+      noted-is = subst (λ (u : Window). AsNoted (u .index) (u .mask) tags masks marks tags' masks' marks' r) e noted
+
+      then : (held : ℕ → Bool) → Known held tags₀ masks₀ marks₀ → Known (λ p. held p || holds (take (i + 1) ws) p) tags' masks' marks'
+      then held k = noted-next ws up i h held tags' masks' marks' (noted-is (λ p. held p || holds (take i ws) p) (s .sorted held k .1) .1)
+
+      pub sorting-known : r .known ≡ true → r .mask < 2 ^ 64 → Sorting ws count tags₀ masks₀ marks₀ tags' masks' marks' (set left i (bitAnd v (18446744073709551615 - r .mask))) (set ask i 0) (i + 1)
+      sorting-known t m = record {
+        lengths = l;
+        places = (length-set left i (bitAnd v (18446744073709551615 - r .mask)) ∙ s .places .0, length-set ask i 0 ∙ s .places .1);
+        sorted = λ held k. (
+          sorted-next ws up i h held count left ask (bitAnd v (18446744073709551615 - r .mask)) 0 (omega (arith, s .places .0)) (omega (arith, s .places .1)) (s .sorted held k .0)
+              (λ b n. ap (λ (z : ℕ). bit (bitAnd z (18446744073709551615 - r .mask)) b || (bit 0 b && not (held (here .index * 64 + b)))) v-is ∙ sort-known ws up i h held count (r .mask) m (told-before ws up i h held (r .mask) (noted-is (λ p. held p || holds (take i ws) p) (s .sorted held k .1) .0 t)) b n),
+          then held k,
+        );
+        small = (
+          small-next i left (bitAnd v (18446744073709551615 - r .mask)) (omega (arith, and-le-l v (18446744073709551615 - r .mask))) (omega (arith, s .places .0)) (s .small .0),
+          small-next i ask 0 (lit< tt) (omega (arith, s .places .1)) (s .small .1),
+        );
+      }
+
+      pub sorting-asked : Sorting ws count tags₀ masks₀ marks₀ tags' masks' marks' (set left i 0) (set ask i v) (i + 1)
+      sorting-asked = record {
+        lengths = l;
+        places = (length-set left i 0 ∙ s .places .0, length-set ask i v ∙ s .places .1);
+        sorted = λ held k. (
+          sorted-next ws up i h held count left ask 0 v (omega (arith, s .places .0)) (omega (arith, s .places .1)) (s .sorted held k .0)
+              (λ b n. ap (λ (z : ℕ). bit 0 b || (bit z b && not (held (here .index * 64 + b)))) v-is ∙ sort-asked ws up i h held count b n),
+          then held k,
+        );
+        small = (small-next i left 0 (lit< tt) (omega (arith, s .places .0)) (s .small .0), small-next i ask v vs (omega (arith, s .places .1)) (s .small .1));
+      }

@@ -10,12 +10,14 @@ use native.Mathlib.Decide.{decLt}
 use lib.ListN.{length, drop}
 use Rattle.rules.specs.Records.{Pages, Commit}
 use Rattle.rules.specs.Pages.{isEmpty}
+use Rattle.rules.specs.Write.{pagesOf}
 use Rattle.rules.specs.Walk.{gift}
 use Rattle.rows.specs.Lookups.{nth}
 use Rattle.commits.specs.Places.{commitAt}
 use Rattle.commits.specs.declared.Place.the-variants.{At, Missing}
 use Rattle.gifts.specs.Paths.{placeAt, Below, commitsAt, before}
-use Rattle.gifts.specs.Steps.{stepOf, stepFrom}
+use Rattle.masks.specs.Masks.{given}
+use Rattle.gifts.specs.Steps.{stepOf, stepFrom, GiftIn}
 
 -- ---- the place of a number
 
@@ -69,6 +71,14 @@ none-nth f k n [] e h = refl
 none-nth f zero n (p ∷ ps) e h = a-place p e
 none-nth f (suc k) zero (p ∷ ps) e h = absurd (omega arith)
 none-nth f (suc k) (suc n) (p ∷ ps) e h = none-nth f k n ps e (omega arith)
+
+-- ---- the masks of a step's gift
+
+pub gift-in-none : (t left : List ℕ) (g : Pages) → GiftIn t Missing left g
+gift-in-none t left g i e = no-place i e
+
+pub gift-in : (t : List ℕ) (i : ℕ) (left : List ℕ) (g : Pages) → given (pagesOf (commitAt t i .segment)) left ≡ g → GiftIn t (At i) left g
+gift-in t i left g e j q = let z : i ≡ j = cc in ap (λ (k : ℕ). given (pagesOf (commitAt t k .segment)) left) (sym z) ∙ e
 
 module _ (t ps : List ℕ) where
   -- ---- those met before a number

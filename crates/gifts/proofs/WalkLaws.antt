@@ -7,6 +7,8 @@ use mathlib.Core.Option.{Option, none, some}
 use mathlib.Core.Bool.{true, false}
 use native.Mathlib.Omega.{arith}
 use lib.ListN.{length, drop, length-map}
+use Rattle.pageset.specs.declared.PageSet.{PageSet}
+use Rattle.pageset.specs.Says.{emptySet}
 use Rattle.pageset.specs.Sets.{shown, normal, normalForm}
 use Rattle.rules.specs.Lists.{isSome}
 use Rattle.rules.specs.Records.{Pages, Segment, Commit, Snapshot}
@@ -18,6 +20,7 @@ use Rattle.rules.proofs.PageCounts.{truncated-normal}
 use Rattle.table.specs.Table.{countOf}
 use Rattle.table.specs.declared.Run.{Run}
 use Rattle.layout.specs.Tables.{commitsIn, commitsOk}
+use Rattle.setbytes.specs.Laid.{setLaid}
 use Rattle.setbytes.proofs.LaidLaws.{says-laid, laid-normal}
 use Rattle.commits.specs.Places.{commitAt}
 use Rattle.commits.specs.declared.Place.{Place}
@@ -152,6 +155,30 @@ module _ (t ps : List ℕ) (ok : commitsOk t ≡ true) (inside : Inside t ps) (c
 
     pub step-none : s .at ≡ Missing → itemsFrom t count ps k ≡ []
     step-none e = none-by (length ps) k (omega arith) (ap (λ (x : Step). x .at) (sym r) ∙ e)
+
+  -- no gift where no commit gets one
+  gone-by : (n k : ℕ) → length ps ≤ k + n → stepFrom t count ps k .0 .at ≡ Missing → stepFrom t count ps k .1 ≡ []
+  gone-by zero k h e = placed (placeAt k ps) (λ m. ap (λ (x : Step × Pages). x .1) (step-end t ps count k m)) (λ p q. absurd (omega (arith, place-few k p ps q)))
+  gone-by (suc n) k h e =
+      placed (placeAt k ps) (λ m. ap (λ (x : Step × Pages). x .1) (step-end t ps count k m))
+      (λ p q. cases (isEmpty (gave k p))
+      (λ b. ap (λ (x : Step × Pages). x .1) (step-on t ps count k p q b) ∙ gone-by n (k + 1) (omega arith) (ap (λ (x : Step × Pages). x .0 .at) (sym (step-on t ps count k p q b)) ∙ e))
+      (λ b. no-place (stepFrom t count ps k .0 .at) p e (ap (λ (x : Step × Pages). x .0 .at) (step-here t ps count k p q b))))
+
+  -- what a step found, by value
+  module _ (k : ℕ) (s : Step) (r : s ≡ stepFrom t count ps k .0) where
+    pub found-missing : (g : PageSet) → g ≡ emptySet → s .at ≡ Missing → record { at = Missing; next = s .next; gift = g } ≡ foundFrom t count ps k
+    found-missing g z e =
+        let n = gone-by (length ps) k (omega arith) (ap (λ (x : Step). x .at) (sym r) ∙ e) in
+        ap (λ (x : PageSet). record { at = Missing; next = s .next; gift = x }) (z ∙ ap setLaid (sym n))
+        ∙ ap (λ (x : Place). record { at = x; next = s .next; gift = setLaid (stepFrom t count ps k .1) }) (sym e)
+        ∙ ap (λ (x : Step). record { at = x .at; next = x .next; gift = setLaid (stepFrom t count ps k .1) }) r
+
+    pub found-is : (i : ℕ) (g : PageSet) (p : Pages) → s .at ≡ At i → g ≡ setLaid p → p ≡ stepFrom t count ps k .1 → record { at = At i; next = s .next; gift = g } ≡ foundFrom t count ps k
+    found-is i g p e z q =
+        ap (λ (x : PageSet). record { at = At i; next = s .next; gift = x }) (z ∙ ap setLaid q)
+        ∙ ap (λ (x : Place). record { at = x; next = s .next; gift = setLaid (stepFrom t count ps k .1) }) (sym e)
+        ∙ ap (λ (x : Step). record { at = x .at; next = x .next; gift = setLaid (stepFrom t count ps k .1) }) r
 
   -- the same of a gift by value
   pub record FoundAt (k : ℕ) (s : Found) (i : ℕ) : Type 0 where

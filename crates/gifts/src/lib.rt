@@ -35,7 +35,7 @@ ghost use Rattle.rules.specs.Walk.{gift as giftOf};
 ghost use Rattle.layout.specs.Values.{setBytes};
 ghost use Rattle.layout.specs.Tables.{commitsOk};
 ghost use Rattle.setbytes.specs.Laid.{windowsAt, setLaid};
-ghost use Rattle.masks.specs.Masks.{given, lessMasks};
+ghost use Rattle.masks.specs.Masks.{given, lessMasks, moreMasks, noMasks};
 ghost use Rattle.notes.specs.Known.{Known};
 ghost use Rattle.commits.specs.Places.{commitAt};
 ghost use Rattle.gifts.specs.Paths.{placesIn, Inside, commitsAt, before};
@@ -137,12 +137,33 @@ fn sort_out(
         if told.known {
             left[i] = pages & !told.mask;
             ask[i] = 0;
+            i += 1;
         } else {
             left[i] = 0;
             ask[i] = pages;
+            i += 1;
         }
-        i += 1;
     }
+}
+
+// Adds to the masks of n windows, one at least, those of the pages asked for that the first k commits of the path do not hold. Whether there is then a page in them.
+fn ask_rest(
+    commits: &[u8],
+    path: Path,
+    k: usize,
+    at: usize,
+    n: usize,
+    left: &mut [u64],
+    ask: &mut [u64],
+) -> bool
+    requires { ⌜ (commitsOk (now commits) ≡ true) × Inside (now commits) (placesIn (path .runs)) × (k ≤ length (placesIn (path .runs))) ⌝ }
+    requires { ⌜ (at + n * 12 ≤ length (now commits)) × (0 < n) × (n ≤ 32) × (rising 0 (windowsAt n at (now commits)) ≡ true) × (length (now left) ≡ 32) × (length (now ask) ≡ 32) ⌝ }
+    ensures { λ r. ⌜ r ≡ not (noMasks n (now (left .exit))) ⌝ }
+    ensures { λ _. ⌜ now (left .exit) ≡ moreMasks n (now (left .entry)) (lessAll (windowsAt n at (now (commits .entry))) (before k (commitsAt (now (commits .entry)) (placesIn (path .runs)))) (now (ask .entry))) ⌝ }
+{
+    ask_all(commits, path, k, at, n, ask);
+    more(left, ask, n);
+    !none_left(left, n)
 }
 
 // Makes the gift of the commit in record i, which is the path's commit of number k, as masks of its windows, and notes its pages. Whether there is a page in it.
@@ -180,11 +201,10 @@ fn make_gift(
         left,
         &mut ask,
     );
-    if !none_left(&ask, n) {
-        ask_all(commits, path, k, at + 1, n, &mut ask);
-        more(left, &ask, n);
+    if none_left(&ask, n) {
+        return !none_left(left, n);
     }
-    !none_left(left, n)
+    ask_rest(commits, path, k, at + 1, n, left, &mut ask)
 }
 
 // The next commit of the path, from number `from` on, that gets pages; and the masks of its gift. The notes are those of the commits before number `from`, and become those of the commits before the next number.
