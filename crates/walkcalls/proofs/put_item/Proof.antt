@@ -1,5 +1,7 @@
--- Log, LSN, segment and gift are stored one after another, the log and the segment as they stand in the row.
-use Rattle.setbytes.proofs.LaidLaws.{laid-says}
+-- The four parts of the item are stored one after another (`row-stored`).
+use Rattle.rules.specs.Write.{pagesOf}
+use Rattle.masks.specs.Masks.{given}
+use Rattle.commits.specs.Places.{commitAt}
 use Rattle.walkcalls.proofs.ItemLaws.{row-stored}
 use borrow.Author.Needs.{needs}
 use Rattle.walkcalls.proofs.put_item.Statement.{statement}
@@ -32,17 +34,20 @@ add-copy-3 c = search needs
 copy-requires-2 : tie.Need-copy-requires-2
 copy-requires-2 c κs = search needs
 
-add-set-write : tie.Need-add-set-write
-add-set-write c = search needs
+add-put-gift : tie.Need-add-put-gift
+add-put-gift c = search needs
 
-set-write-requires : tie.Need-set-write-requires
-set-write-requires c κs = (search needs, laid-says ((c .before .before .before .before .before .before .before .before .before .before .before .before .before .before .before .before .before) .args .gift) ((c .before .before .before .before .before .before .before .before .before .before .before .before .before .before .before .before .before) .pre .1 .0))
+put-gift-requires : tie.Need-put-gift-requires
+put-gift-requires c κs = search needs
 
 same-length : tie.Need-same-length
 same-length c = search needs
 
 returns : tie.Need-returns
-returns c = row-stored ((c .before .before .before .before .before .before .before .before .before .before .before .before .before .before .before .before .before .before .before .before) .args .commits .now) ((c .before .before .before .before .before .before .before .before .before .before .before .before .before .before .before .before .before .before .before .before) .pre .0 .0) ((c .before .before .before .before .before .before .before .before .before .before .before .before .before .before .before .before .before .before .before .before) .args .i) ((c .before .before .before .before .before .before .before .before .before .before .before .before .before .before .before .before .before .before .before .before) .pre .0 .1) ((c .before .before .before .before .before .before .before .before .before .before .before .before .before .before .before .before .before .before .before .before) .pre .0 .2) ((c .before .before .before .before .before .before .before .before .before .before .before .before .before .before .before .before .before .before .before .before) .args .gift) ((c .before .before .before .before .before .before .before .before .before .before .before .before .before .before .before .before .before .before .before .before) .pre .1 .0) (c .before .before .before .before .before .before .before .before .before .before .before .before .before .before .before .before .before .row .result) (c .before .before .before .before .before .before .before .before .before .before .before .lsn-at .result) ((c .before .before .before .before .before .before .before .before .before .before .before .before .before .before .before .before .before .before .before .before) .args .at) ((c .before .before .before .before .before .before .before .before .before .before .before .before .before .before .before .before .before .before .before .before) .args .list .now) _ _ _ _ (c .before .before .before .before .before .before .before .before .before .before .before .before .before .before .before .before .before .row .ensures .0) (c .before .before .before .before .before .before .before .before .before .before .before .lsn-at .ensures) ((c .before .before .before .before .before .before .before .before .before .before .before .before .before .before .before .before .before .before .before .before) .pre .1 .1) (c .before .before .before .before .before .before .before .before .before .before .before .before .before .before .before .copy .ensures) (c .before .before .before .before .before .before .before .before .before .before .store64 .ensures) (c .before .before .before .before .before .before .copy2 .ensures) (c .before .before .set-write .ensures)
+returns c =
+    let a = c .before .before .before .before .before .before .before .before .before .before .before .before .before .before .before .before .before .before .before .before .before in
+    let t = a .args .commits .now in
+    row-stored t (a .pre .0 .0) (a .args .i) (a .pre .0 .1) (a .pre .0 .2) (given (pagesOf (commitAt t (a .args .i) .segment)) (a .args .left .now)) (a .pre .1 .0) (c .before .before .before .before .before .before .before .before .before .before .before .before .before .before .before .before .before .row .result) (c .before .before .before .before .before .before .before .before .before .before .before .lsn-at .result) (a .args .at) (a .args .list .now) _ _ _ _ (c .before .before .before .before .before .before .before .before .before .before .before .before .before .before .before .before .before .row .ensures .0) (c .before .before .before .before .before .before .before .before .before .before .before .lsn-at .ensures) (a .pre .1 .2) (c .before .before .before .before .before .before .before .before .before .before .before .before .before .before .before .copy .ensures) (c .before .before .before .before .before .before .before .before .before .before .store64 .ensures) (c .before .before .before .before .before .before .copy2 .ensures) (c .before .before .put-gift .ensures)
 
 pub put-item-spec : {M : Type 1} → statement M
 put-item-spec =
@@ -57,7 +62,7 @@ put-item-spec =
     add-copy-2
     add-copy-3
     copy-requires-2
-    add-set-write
-    set-write-requires
+    add-put-gift
+    put-gift-requires
     same-length
     returns)
