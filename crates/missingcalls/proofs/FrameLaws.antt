@@ -37,9 +37,18 @@ use Rattle.commits.specs.Places.{commitAt}
 use Rattle.segmentargs.specs.Lists.{segmentIn, IsFrame}
 use Rattle.segmentargs.proofs.ListLaws.{frames-few, parts-long}
 use Rattle.gifts.specs.Steps.{segmentOf}
-use Rattle.gifts.proofs.SetLaws.{is-empty, not-empty}
 use Rattle.walkcalls.proofs.ItemLaws.{form, row-segment}
 use Rattle.missingcalls.specs.Cursors.{framesAt, framesLeft, Fit}
+
+-- ---- a set without windows
+
+is-empty : (ws : R.Pages) → length ws ≡ 0 → isEmpty ws ≡ true
+is-empty [] e = refl
+is-empty (w ∷ ws) e = absurd (omega arith)
+
+not-empty : (ws : R.Pages) → (length ws ≡ 0 → ⊥) → isEmpty ws ≡ false
+not-empty [] n = absurd (n refl)
+not-empty (w ∷ ws) n = refl
 
 -- ---- the frames of a row
 
