@@ -2,3 +2,9 @@ pub mod Kept
 pub mod Laws
 pub mod Rules
 pub mod Calls
+pub mod Rooms
+pub mod Stored
+pub mod Losing
+pub mod Writes
+pub mod Copies
+pub mod Opening
