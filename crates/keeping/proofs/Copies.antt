@@ -1,16 +1,16 @@
 -- The law over the two copies: what their contracts' answers say, check by check, to the rules'.
 use Prim.Native.Nat.{ℕ}
-use mathlib.Core.Path.{_≡_, refl, sym, ap, _∙_, subst}
+use mathlib.Core.Path.{_≡_, ap, _∙_, subst}
 use mathlib.Core.List.{List}
-use mathlib.Core.Option.{Option, some}
-use mathlib.Core.Bool.{true, _&&_}
+use mathlib.Core.Option.{some}
+use mathlib.Core.Bool.{true}
 use Rattle.core.specs.Answers.{Answer, done}
 use Rattle.rules.specs.Records.{Id, Volume}
 use Rattle.rules.specs.Tables.{Table}
 use Rattle.rules.specs.Write.{Logs}
 use Rattle.rules.specs.Open.{Ids}
 use Rattle.rules.specs.Demand.{NoPageLost}
-use Rattle.rules.specs.Copies.{fromSnapshot, fromLogref}
+use Rattle.rules.specs.Copies.{fromSnapshot}
 use Rattle.rules.specs.Calls.{Tables, Change, copying, copyingRef, does, outcome, withLogs, withVolumes, typed, idsTyped}
 use Rattle.rules.proofs.TableLaws.{and-fst, and-snd}
 use Rattle.rules.proofs.AnswerLaws.{done-same, gotten}

@@ -2,6 +2,7 @@ pub mod Kept
 pub mod Laws
 pub mod Rules
 pub mod Calls
+pub mod Recovered
 pub mod Rooms
 pub mod Stored
 pub mod Losing

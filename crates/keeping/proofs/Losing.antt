@@ -1,9 +1,9 @@
 -- Recover and the copies overwrite no stored commit by one lacking any of its pages: recover stores again what is stored, and a copy stores in a log that has no commit (5).
 use Prim.Native.Nat.{ℕ}
 use mathlib.Core.Path.{_≡_, refl, sym, ap, _∙_, subst}
-use mathlib.Core.List.{List, [], _∷_}
+use mathlib.Core.List.{[], _∷_}
 use mathlib.Core.Option.{Option, none, some}
-use mathlib.Core.Bool.{Bool, true, false, _&&_, cond}
+use mathlib.Core.Bool.{true, false, _&&_, cond}
 use mathlib.Core.Logic.{⊎-elim}
 use lib.Dec.{isEq, leb}
 use lib.ListN.{length}
@@ -11,20 +11,21 @@ use Rattle.core.specs.Answers.{Answer, refused, done}
 use Rattle.core.specs.Numbers.{counts}
 use Rattle.core.specs.Orders.{bytes, logLsn}
 use Rattle.core.proofs.OrderLaws.{bytes-lawful, logLsn-lawful}
-use Rattle.rules.specs.Lists.{isNone}
-use Rattle.rules.specs.Records.{Id, Commit, Pending, Volume, Range, Snapshot, LogLsn, commitKey}
-use Rattle.rules.specs.Tables.{Table, get, sameId, volumesFormed, getVolume, getCommit, latest}
-use Rattle.rules.specs.Write.{Logs, write, logsFormed}
+use Rattle.rules.specs.Records.{Id, Commit, Volume, Snapshot, LogLsn, commitKey}
+use Rattle.rules.specs.Tables.{Table, get, sameId, getCommit, latest}
+use Rattle.rules.specs.Write.{Logs, write}
 use Rattle.rules.specs.Open.{Ids}
-use Rattle.rules.specs.Push.{isHash, push, leaves, recoverBy, recoverPending, recoverVolume, recover}
+use Rattle.rules.specs.Push.{recover}
 use Rattle.rules.specs.Walk.{pathCommits}
-use Rattle.rules.specs.Copies.{copyFree, copied, fromSnapshot, fromLogref}
+use Rattle.rules.specs.Copies.{fromSnapshot, fromLogref}
 use Rattle.rules.specs.Demand.{holdsAt, NoPageLost}
 use Rattle.rules.specs.Calls.{Tables, Change, copying, copyingRef, does, outcome, withLogs, withVolumes}
 use Rattle.rules.specs.Named.{storesAt, copiesAt}
-use Rattle.rules.proofs.TableLaws.{cases, options, clash, none-of, and-fst, and-snd, eq-of, get-some, get-put}
+use Rattle.rules.proofs.TableLaws.{cases, options, clash, and-fst, eq-of, get-some, get-put}
 use Rattle.rules.proofs.Lookups.{latest-none}
-use Rattle.rules.proofs.NamedLogs.{push-done, copied-done, fromSnapshot-done, fromLogref-done, commit-untouched}
+use Rattle.rules.proofs.NamedLogs.{copied-done, fromSnapshot-done, fromLogref-done, commit-untouched}
+use Rattle.copycalls.proofs.Asks.{local-free}
+use Rattle.keeping.proofs.Recovered.{recover-ends}
 
 nothing-lost : (cs : Table Commit) → NoPageLost cs cs
 nothing-lost cs log p lsn h = h
@@ -44,49 +45,11 @@ again g c k there log p lsn h =
     ap (holdsAt p) (get-put commitKey logLsn logLsn-lawful (log, lsn) c (g .commits .rows) ∙ chosen q ∙ sym own) ∙ h)
     (λ q. ap (holdsAt p) (get-put commitKey logLsn logLsn-lawful (log, lsn) c (g .commits .rows) ∙ other q) ∙ h)
 
-abbrev Lossless : Table Volume → Logs → (ℕ × Table Volume × Logs) → Type 0
-Lossless vs g r = NoPageLost (g .commits) (r .2 .commits)
-
 pub recover-lossless : (vs : Table Volume) (g : Logs) (vid : Id) → NoPageLost (g .commits) (recover vs g vid .2 .commits)
-unfolding recover
-recover-lossless vs g vid = by-formed (volumesFormed vs && logsFormed g)
-  where
-    kept : NoPageLost (g .commits) (g .commits)
-    kept = nothing-lost (g .commits)
-
-    by-push : (v : Volume) (p : Pending) (c : Commit) → getCommit (g .commits) (v .remote) (p .commit) ≡ some c → (a : Answer (Table Volume × Logs)) → push vs g v p c ≡ a → Lossless vs g (leaves vs g a)
-    by-push v p c there (refused n) e = kept
-    by-push v p c there (done r) e =
-        let q = push-done vs g v p c r e in
-        subst (λ (x : Table Volume × Logs). NoPageLost (g .commits) (x .1 .commits)) q (again g c (v .remote, p .commit) there)
-
-    by-commit : (v : Volume) (p : Pending) (o : Option Commit) → getCommit (g .commits) (v .remote) (p .commit) ≡ o → Lossless vs g (recoverBy vs g v p o)
-    by-commit v p none q = kept
-    by-commit v p (some c) q = cases (isHash (c .hash) (p .hash)) (λ h. rw h (by-push v p c q (push vs g v p c) refl)) (λ h. rw h kept)
-
-    by-pending : (v : Volume) (o : Option Pending) → Lossless vs g (recoverPending vs g v o)
-    by-pending v none = kept
-    by-pending v (some p) = by-commit v p (getCommit (g .commits) (v .remote) (p .commit)) refl
-
-    by-volume : (o : Option Volume) → Lossless vs g (recoverVolume vs g o)
-    by-volume none = kept
-    by-volume (some v) = by-pending v (v .pending)
-
-    by-formed : (b : Bool) → Lossless vs g (cond b (recoverVolume vs g (getVolume vs vid)) (20, vs, g))
-    by-formed true = by-volume (getVolume vs vid)
-    by-formed false = kept
+recover-lossless vs g vid =
+    recover-ends vs g (λ (r : Table Volume × Logs). NoPageLost (g .commits) (r .1 .commits)) (nothing-lost (g .commits)) (λ v. nothing-lost (g .commits)) (λ v p c there. again g c (v .remote, p .commit) there) vid
 
 -- ---- copies
-
--- a log with no commit has none at any LSN
-none-at : (cs : Table Commit) (log : Id) (lsn : ℕ) → latest cs log ≡ none → getCommit cs log lsn ≡ none
-none-at cs log lsn e =
-    options (getCommit cs log lsn) (λ q. q)
-    (λ c q. let s = get-some commitKey logLsn logLsn-lawful (log, lsn) (cs .rows) q in absurd (latest-none cs log e c (s .0) (λ i. s .1 i .0)))
-
-free-local : (vs : Table Volume) (cs : Table Commit) (x : Ids) → copyFree vs cs x ≡ true → latest cs (x .local) ≡ none
-unfolding copyFree
-free-local vs cs x f = none-of (latest cs (x .local)) (search (and-fst, and-snd))
 
 -- a call that stores only in a log that has no commit
 module _ (t : Tables) (c : Change) (local : Id) (n : ℕ) where
@@ -96,8 +59,8 @@ module _ (t : Tables) (c : Change) (local : Id) (n : ℕ) where
       (λ q.
       let m : sameId local log ≡ true = and-fst (sameId local log) (counts lsn) (and-fst (sameId local log && counts lsn) (leb lsn n) (sym (named (log, lsn)) ∙ q)) in
       let s : local ≡ log = bytes-lawful .same local log (eq-of (bytes local log) m) in
-      let e : getCommit (t .logs .commits) log lsn ≡ none = ap (λ (x : Id). getCommit (t .logs .commits) x lsn) (sym s) ∙ none-at (t .logs .commits) local lsn free in
-      absurd (clash h (ap (holdsAt p) e)))
+      options (getCommit (t .logs .commits) log lsn) (λ e. absurd (clash h (ap (holdsAt p) e)))
+      (λ d e. let m = get-some commitKey logLsn logLsn-lawful (log, lsn) (t .logs .commits .rows) e in absurd (latest-none (t .logs .commits) local free d (m .0) (s ∙ (λ i. m .1 i .0)))))
       (λ q. ap (holdsAt p) (commit-untouched t c log lsn q) ∙ h)
 
   refused-lost : does t c .1 ≡ t → NoPageLost (t .logs .commits) (does t c .1 .logs .commits)
@@ -111,7 +74,7 @@ snapshot-lossless t s x = go (fromSnapshot (t .volumes) (t .logs) s x) refl
     go (refused n) e = refused-lost t (copying s x) (x .local) 0 (ap (λ (a : Answer (Volume × Table Volume × Logs)). outcome t a (λ r. withLogs (withVolumes t (r .1)) (r .2)) .1) e)
     go (done r) e =
         new-log t (copying s x) (x .local) (length (pathCommits (t .logs .commits) (s .path))) (λ k. refl)
-        (free-local (t .volumes) (t .logs .commits) x (copied-done (t .volumes) (t .logs) (s .path) x r (fromSnapshot-done (t .volumes) (t .logs) s x r e) .0))
+        (local-free (t .volumes) (t .logs .commits) x (copied-done (t .volumes) (t .logs) (s .path) x r (fromSnapshot-done (t .volumes) (t .logs) s x r e) .0))
 
 pub logref-lossless : (t : Tables) (log : Id) (lsn : ℕ) (x : Ids) → NoPageLost (t .logs .commits) (does t (copyingRef log lsn x) .1 .logs .commits)
 unfolding does storesAt
@@ -126,5 +89,5 @@ logref-lossless t log lsn x = go (fromLogref (t .volumes) (t .logs) log lsn x) r
         subst (λ (g : Logs). NoPageLost (t .logs .commits) (g .commits)) (sym (d ∙ s .1)) (nothing-lost (t .logs .commits)))
         (λ s.
         new-log t (copyingRef log lsn x) (x .local) (length (pathCommits (t .logs .commits) (record { log = log; start = 1; end = lsn } ∷ []))) (λ k. refl)
-        (free-local (t .volumes) (t .logs .commits) x (copied-done (t .volumes) (t .logs) (record { log = log; start = 1; end = lsn } ∷ []) x (s .0) (s .1) .0)))
+        (local-free (t .volumes) (t .logs .commits) x (copied-done (t .volumes) (t .logs) (record { log = log; start = 1; end = lsn } ∷ []) x (s .0) (s .1) .0)))
         (fromLogref-done (t .volumes) (t .logs) log lsn x r e)

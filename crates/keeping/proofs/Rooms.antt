@@ -2,21 +2,21 @@
 use Prim.Native.Nat.{ℕ}
 use mathlib.Core.Path.{_≡_, refl, sym, ap, _∙_, subst}
 use mathlib.Core.List.{List, [], _∷_}
-use mathlib.Core.Option.{Option, none, some}
-use mathlib.Core.Bool.{Bool, true, false, cond, _&&_}
+use mathlib.Core.Option.{Option}
 use mathlib.Core.Logic.{⊎-elim}
-use Rattle.core.specs.Answers.{Answer, refused, done}
+use Rattle.core.specs.Answers.{done}
 use Rattle.core.specs.Orders.{bytes}
-use Rattle.rules.specs.Records.{Id, Commit, Pending, Volume, Range, Snapshot, volumeKey}
-use Rattle.rules.specs.Tables.{Table, store, volumesFormed, getVolume, getCommit}
+use Rattle.rules.specs.Records.{Id, Commit, Volume, Range, Snapshot, volumeKey}
+use Rattle.rules.specs.Tables.{Table, store}
 use Rattle.rules.specs.Arguments.{commitLsns, commitLists}
 use Rattle.rules.specs.Write.{Logs, write, writeAll, logsFormed, logsFit, writeCommit}
 use Rattle.rules.specs.Open.{Ids}
-use Rattle.rules.specs.Push.{withPending, isHash, push, success, leaves, recoverBy, recoverPending, recoverVolume, recover}
+use Rattle.rules.specs.Push.{pushedVolume, success, recover}
 use Rattle.rules.specs.Walk.{pathCommits}
 use Rattle.rules.specs.Copies.{renumbered, copied, fromSnapshot, fromLogref}
 use Rattle.rules.proofs.AnswerLaws.{done-same, asked}
-use Rattle.rules.proofs.NamedLogs.{push-done, success-done, copied-done, fromSnapshot-done, fromLogref-done}
+use Rattle.rules.proofs.NamedLogs.{success-done, copied-done, fromSnapshot-done, fromLogref-done}
+use Rattle.keeping.proofs.Recovered.{recover-ends}
 
 -- g and h have the same rooms
 pub record SameRooms (g h : Logs) : Type 0 where
@@ -59,51 +59,16 @@ pub record BothRooms (vs : Table Volume) (g : Logs) (r : Table Volume × Logs) :
 same-both : (vs : Table Volume) (g : Logs) (r : Table Volume × Logs) → r .0 ≡ vs → r .1 ≡ g → BothRooms vs g r
 same-both vs g r p q = record { of-volumes = ap (λ (x : Table Volume). x .room) p; of-logs = same-logs (r .1) g q }
 
-push-rooms : (vs : Table Volume) (g : Logs) (v : Volume) (p : Pending) (c : Commit) (r : Table Volume × Logs) → push vs g v p c ≡ done r → BothRooms vs g r
-push-rooms vs g v p c r e =
-    let q = push-done vs g v p c r e in
-    record { of-volumes = ap (λ (x : Table Volume × Logs). x .0 .room) (sym q); of-logs = through (r .1) (write g c) g (same-logs (r .1) (write g c) (ap (λ (x : Table Volume × Logs). x .1) (sym q))) (write-rooms g c) }
+-- a volume stored, and a commit written
+pushed-rooms : (vs : Table Volume) (g : Logs) (v : Volume) (c : Commit) → BothRooms vs g (store volumeKey bytes v vs, write g c)
+pushed-rooms vs g v c = record { of-volumes = refl; of-logs = write-rooms g c }
 
 pub success-rooms : (vs : Table Volume) (g : Logs) (vid : Id) (c : Commit) (r : Table Volume × Logs) → success vs g vid c ≡ done r → BothRooms vs g r
-success-rooms vs g vid c r e =
-    success-done vs g vid c r e (λ v p is pe q. record {
-      of-volumes = ap (λ (x : Table Volume × Logs). x .0 .room) (sym q);
-      of-logs = through (r .1) (write g c) g (same-logs (r .1) (write g c) (ap (λ (x : Table Volume × Logs). x .1) (sym q))) (write-rooms g c);
-    })
-
-abbrev RecoverRooms : Table Volume → Logs → (ℕ × Table Volume × Logs) → Type 0
-RecoverRooms vs g r = BothRooms vs g (r .1, r .2)
+success-rooms vs g vid c r e = success-done vs g vid c r e (λ v p is pe q. subst (BothRooms vs g) q (pushed-rooms vs g (pushedVolume v p) c))
 
 pub recover-rooms : (vs : Table Volume) (g : Logs) (vid : Id) → BothRooms vs g (recover vs g vid .1, recover vs g vid .2)
-unfolding recover
-recover-rooms vs g vid = by-formed (volumesFormed vs && logsFormed g)
-  where
-    kept : (n : ℕ) → RecoverRooms vs g (n, vs, g)
-    kept n = same-both vs g (vs, g) refl refl
-
-    by-push : (a : Answer (Table Volume × Logs)) → ((r : Table Volume × Logs) → a ≡ done r → BothRooms vs g r) → RecoverRooms vs g (leaves vs g a)
-    by-push (refused n) h = kept n
-    by-push (done r) h = h r refl
-
-    by-hash : (v : Volume) (p : Pending) (c : Commit) (b : Bool) → RecoverRooms vs g (cond b (leaves vs g (push vs g v p c)) (8, store volumeKey bytes (withPending v none) vs, g))
-    by-hash v p c true = by-push (push vs g v p c) (λ r e. push-rooms vs g v p c r e)
-    by-hash v p c false = record { of-volumes = refl; of-logs = same-logs g g refl }
-
-    by-commit : (v : Volume) (p : Pending) (o : Option Commit) → RecoverRooms vs g (recoverBy vs g v p o)
-    by-commit v p none = record { of-volumes = refl; of-logs = same-logs g g refl }
-    by-commit v p (some c) = by-hash v p c (isHash (c .hash) (p .hash))
-
-    by-pending : (v : Volume) (o : Option Pending) → RecoverRooms vs g (recoverPending vs g v o)
-    by-pending v none = kept 0
-    by-pending v (some p) = by-commit v p (getCommit (g .commits) (v .remote) (p .commit))
-
-    by-volume : (o : Option Volume) → RecoverRooms vs g (recoverVolume vs g o)
-    by-volume none = kept 4
-    by-volume (some v) = by-pending v (v .pending)
-
-    by-formed : (b : Bool) → RecoverRooms vs g (cond b (recoverVolume vs g (getVolume vs vid)) (20, vs, g))
-    by-formed true = by-volume (getVolume vs vid)
-    by-formed false = kept 20
+recover-rooms vs g vid =
+    recover-ends vs g (BothRooms vs g) (same-both vs g (vs, g) refl refl) (λ v. record { of-volumes = refl; of-logs = same-logs g g refl }) (λ v p c there. pushed-rooms vs g (pushedVolume v p) c) vid
 
 copied-rooms : (vs : Table Volume) (g : Logs) (path : List Range) (x : Ids) (r : Volume × Table Volume × Logs) → copied vs g path x ≡ done r → BothRooms vs g (r .1, r .2)
 copied-rooms vs g path x r e =

@@ -3,8 +3,8 @@
 use Prim.Native.Nat.{ℕ, Ordering}
 use mathlib.Core.Path.{_≡_, refl, sym, ap, _∙_, subst}
 use mathlib.Core.List.{List}
-use mathlib.Core.Bool.{Bool, true, _&&_}
-use mathlib.Core.Logic.{_⊎_, inl, inr, ⊎-elim}
+use mathlib.Core.Bool.{Bool, true}
+use mathlib.Core.Logic.{_⊎_, inl, inr, ⊎-elim, _↔_}
 use Rattle.core.specs.Answers.{Answer, refused, done}
 use Rattle.rules.specs.Records.{Volume}
 use Rattle.rules.specs.Tables.{Table, formed, volumesFormed, commitsFormed, checkpointsFormed, indexFormed}
@@ -37,15 +37,23 @@ module _ (t : Tables) (c : Change) (u : Tables) where
   pub follows-keeps : Follows t c u → Keeps t c u
   follows-keeps f = ⊎-elim (λ e. subst (λ (x : Tables). Keeps t c x) (sym e) (same-keeps t c)) (λ e. subst (λ (x : Tables). Keeps t c x) (sym e) (does-keeps t c)) f
 
-  pub follows-exact : Follows t c u → Exact (t .logs .commits) (t .logs .index) → NoPageLost (t .logs .commits) (u .logs .commits) → Exact (u .logs .commits) (u .logs .index)
-  follows-exact f exact lost =
-      ⊎-elim (λ e. subst (λ (x : Tables). Exact (x .logs .commits) (x .logs .index)) (sym e) exact)
-      (λ e. subst (λ (x : Tables). Exact (x .logs .commits) (x .logs .index)) (sym e) (exact-kept t c exact (subst (λ (x : Tables). NoPageLost (t .logs .commits) (x .logs .commits)) e lost))) f
-
+  -- a rule that loses no page leaves the index exact
   pub follows-lossless : Follows t c u → NoPageLost (t .logs .commits) (does t c .1 .logs .commits) → Exact (t .logs .commits) (t .logs .index) → Exact (u .logs .commits) (u .logs .index)
   follows-lossless f lost exact =
       ⊎-elim (λ e. subst (λ (x : Tables). Exact (x .logs .commits) (x .logs .index)) (sym e) exact)
       (λ e. subst (λ (x : Tables). Exact (x .logs .commits) (x .logs .index)) (sym e) (exact-kept t c exact lost)) f
+
+  lossless-exact : Follows t c u → Exact (t .logs .commits) (t .logs .index) → NoPageLost (t .logs .commits) (u .logs .commits) → Exact (u .logs .commits) (u .logs .index)
+  lossless-exact f exact lost =
+      ⊎-elim (λ e. subst (λ (x : Tables). Exact (x .logs .commits) (x .logs .index)) (sym e) exact)
+      (λ e. follows-lossless (inr e) (subst (λ (x : Tables). NoPageLost (t .logs .commits) (x .logs .commits)) e lost) exact) f
+
+  -- an index entry stays, so an index that is exact afterwards shows that no page was lost
+  exact-lossless : Follows t c u → Exact (t .logs .commits) (t .logs .index) → Exact (u .logs .commits) (u .logs .index) → NoPageLost (t .logs .commits) (u .logs .commits)
+  exact-lossless f exact later log p lsn h = sym (later log p lsn) ∙ follows-keeps f .entry-stays log p lsn (exact log p lsn ∙ h)
+
+  pub follows-exact : Follows t c u → Exact (t .logs .commits) (t .logs .index) → Exact (u .logs .commits) (u .logs .index) ↔ NoPageLost (t .logs .commits) (u .logs .commits)
+  follows-exact f exact = (exact-lossless f exact, lossless-exact f exact)
 
 -- ---- one table: `was` and `left` are its bytes before and after a call that answers a
 

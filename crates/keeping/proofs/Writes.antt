@@ -1,9 +1,9 @@
 -- The law over each call that stores commits: what its contract's answer says, check by check, to the rule's.
 use Prim.Native.Nat.{ℕ}
-use mathlib.Core.Path.{_≡_, refl, sym, ap, _∙_, subst}
+use mathlib.Core.Path.{_≡_, refl, ap, subst}
 use mathlib.Core.List.{List}
 use mathlib.Core.Option.{Option, none, some}
-use mathlib.Core.Bool.{Bool, true, false, _&&_}
+use mathlib.Core.Bool.{Bool, true, false}
 use lib.Dec.{eqb, leb}
 use lib.ListN.{length}
 use Rattle.core.specs.Answers.{Answer, refused, done, ask, _>>_}
@@ -13,9 +13,9 @@ use Rattle.rules.specs.Records.{Id, Commit, Segment, Volume}
 use Rattle.rules.specs.Forms.{idForm, hashForm, lsnForm, countForm, listsForm, segmentForm, commitForm}
 use Rattle.rules.specs.Tables.{Table}
 use Rattle.rules.specs.Arguments.{commitLsns}
-use Rattle.rules.specs.Write.{Logs, writeCommit}
-use Rattle.rules.specs.Push.{success, recover}
-use Rattle.rules.specs.Calls.{Tables, Change, writing, succeeding, recovering, does, outcome, withLogs, withVolumes, typed, lsnTyped}
+use Rattle.rules.specs.Write.{Logs}
+use Rattle.rules.specs.Push.{recover}
+use Rattle.rules.specs.Calls.{Tables, writing, succeeding, recovering, does, outcome, withLogs, withVolumes, typed, lsnTyped}
 use Rattle.rules.proofs.TableLaws.{and-fst, and-snd, and-both, all-weaken}
 use Rattle.rules.proofs.AnswerLaws.{refused-done, done-same, asked}
 use Rattle.layout.specs.Codecs.{spelled, inForm}
@@ -29,7 +29,7 @@ use Rattle.keeping.specs.Holding.{volumesAndLogs, logsAlone}
 use Rattle.keeping.specs.Stays.{StaysFormed, LogsStayFormed, StaysExact, StaysExactWhile}
 use Rattle.keeping.proofs.Rooms.{BothRooms, write-commit-rooms, success-rooms, recover-rooms}
 use Rattle.keeping.proofs.Losing.{recover-lossless}
-use Rattle.keeping.proofs.Stored.{Follows, follows-keeps, follows-exact, follows-lossless, LogsRuled, LogsKept, logs-kept, Ruled, BothKept, both-kept}
+use Rattle.keeping.proofs.Stored.{follows-keeps, follows-exact, follows-lossless, LogsRuled, LogsKept, logs-kept, Ruled, both-kept}
 
 -- ---- what an answer says
 

@@ -3,6 +3,7 @@ use Prim.Native.Nat.{ℕ}
 use mathlib.Core.Path.{_≡_}
 use mathlib.Core.List.{List}
 use mathlib.Core.Bool.{Bool, true}
+use mathlib.Core.Logic.{_↔_}
 use Rattle.rules.specs.Demand.{Exact, NoPageLost}
 use Rattle.layout.specs.Tables.{commitsIn, commitsOk, checkpointsOk, indexIn, indexOk}
 
@@ -20,7 +21,7 @@ pub record LogsStayFormed (commits checkpoints index commits′ checkpoints′ i
 abbrev pub StaysExact : (commits index commits′ index′ : List ℕ) → Type 0
 StaysExact commits index commits′ index′ = Exact (commitsIn commits) (indexIn index) → Exact (commitsIn commits′) (indexIn index′)
 
--- it does while no stored commit is overwritten by one lacking any of its pages
+-- it does just while no stored commit is overwritten by one lacking any of its pages
 abbrev pub StaysExactWhile : (commits index commits′ index′ : List ℕ) → Type 0
 StaysExactWhile commits index commits′ index′ =
-    Exact (commitsIn commits) (indexIn index) → NoPageLost (commitsIn commits) (commitsIn commits′) → Exact (commitsIn commits′) (indexIn index′)
+    Exact (commitsIn commits) (indexIn index) → Exact (commitsIn commits′) (indexIn index′) ↔ NoPageLost (commitsIn commits) (commitsIn commits′)
