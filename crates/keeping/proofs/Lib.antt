@@ -9,3 +9,4 @@ pub mod Losing
 pub mod Writes
 pub mod Copies
 pub mod Opening
+pub mod Freshness
