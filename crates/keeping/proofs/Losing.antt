@@ -51,6 +51,10 @@ recover-lossless vs g vid =
 
 -- ---- copies
 
+-- a call that leaves the tables
+left-lossless : (t : Tables) (c : Change) → does t c .1 ≡ t → NoPageLost (t .logs .commits) (does t c .1 .logs .commits)
+left-lossless t c e = subst (λ (u : Tables). NoPageLost (t .logs .commits) (u .logs .commits)) (sym e) (nothing-lost (t .logs .commits))
+
 -- a call that stores only in a log that has no commit
 module _ (t : Tables) (c : Change) (local : Id) (n : ℕ) where
   new-log : ((k : LogLsn) → storesAt t c k ≡ copiesAt local n k) → latest (t .logs .commits) local ≡ none → NoPageLost (t .logs .commits) (does t c .1 .logs .commits)
@@ -60,18 +64,15 @@ module _ (t : Tables) (c : Change) (local : Id) (n : ℕ) where
       let m : sameId local log ≡ true = and-fst (sameId local log) (counts lsn) (and-fst (sameId local log && counts lsn) (leb lsn n) (sym (named (log, lsn)) ∙ q)) in
       let s : local ≡ log = bytes-lawful .same local log (eq-of (bytes local log) m) in
       options (getCommit (t .logs .commits) log lsn) (λ e. absurd (clash h (ap (holdsAt p) e)))
-      (λ d e. let m = get-some commitKey logLsn logLsn-lawful (log, lsn) (t .logs .commits .rows) e in absurd (latest-none (t .logs .commits) local free d (m .0) (s ∙ (λ i. m .1 i .0)))))
+      (λ d e. let k = get-some commitKey logLsn logLsn-lawful (log, lsn) (t .logs .commits .rows) e in absurd (latest-none (t .logs .commits) local free d (k .0) (s ∙ (λ i. k .1 i .0)))))
       (λ q. ap (holdsAt p) (commit-untouched t c log lsn q) ∙ h)
-
-  refused-lost : does t c .1 ≡ t → NoPageLost (t .logs .commits) (does t c .1 .logs .commits)
-  refused-lost e = subst (λ (u : Tables). NoPageLost (t .logs .commits) (u .logs .commits)) (sym e) (nothing-lost (t .logs .commits))
 
 pub snapshot-lossless : (t : Tables) (s : Snapshot) (x : Ids) → NoPageLost (t .logs .commits) (does t (copying s x) .1 .logs .commits)
 unfolding does storesAt
 snapshot-lossless t s x = go (fromSnapshot (t .volumes) (t .logs) s x) refl
   where
     go : (a : Answer (Volume × Table Volume × Logs)) → fromSnapshot (t .volumes) (t .logs) s x ≡ a → NoPageLost (t .logs .commits) (does t (copying s x) .1 .logs .commits)
-    go (refused n) e = refused-lost t (copying s x) (x .local) 0 (ap (λ (a : Answer (Volume × Table Volume × Logs)). outcome t a (λ r. withLogs (withVolumes t (r .1)) (r .2)) .1) e)
+    go (refused n) e = left-lossless t (copying s x) (ap (λ (a : Answer (Volume × Table Volume × Logs)). outcome t a (λ r. withLogs (withVolumes t (r .1)) (r .2)) .1) e)
     go (done r) e =
         new-log t (copying s x) (x .local) (length (pathCommits (t .logs .commits) (s .path))) (λ k. refl)
         (local-free (t .volumes) (t .logs .commits) x (copied-done (t .volumes) (t .logs) (s .path) x r (fromSnapshot-done (t .volumes) (t .logs) s x r e) .0))
@@ -81,7 +82,7 @@ unfolding does storesAt
 logref-lossless t log lsn x = go (fromLogref (t .volumes) (t .logs) log lsn x) refl
   where
     go : (a : Answer (Option Volume × Table Volume × Logs)) → fromLogref (t .volumes) (t .logs) log lsn x ≡ a → NoPageLost (t .logs .commits) (does t (copyingRef log lsn x) .1 .logs .commits)
-    go (refused n) e = refused-lost t (copyingRef log lsn x) (x .local) 0 (ap (λ (a : Answer (Option Volume × Table Volume × Logs)). outcome t a (λ r. withLogs (withVolumes t (r .1)) (r .2)) .1) e)
+    go (refused n) e = left-lossless t (copyingRef log lsn x) (ap (λ (a : Answer (Option Volume × Table Volume × Logs)). outcome t a (λ r. withLogs (withVolumes t (r .1)) (r .2)) .1) e)
     go (done r) e =
         ⊎-elim
         (λ s.
