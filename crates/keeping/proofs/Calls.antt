@@ -17,6 +17,7 @@ use Rattle.layout.specs.Lent.{lent, after}
 use Rattle.rows.proofs.Rows.{formed-rules}
 use Rattle.rows.proofs.Tables as Layouts
 use Rattle.keeping.specs.Frame.{Keeps}
+use Rattle.keeping.specs.Stays.{StaysFormed}
 use Rattle.keeping.specs.Holding.{volumesAnd, volumesAlone, presenceAlone, tagsAlone}
 use Rattle.keeping.proofs.Laws.{keeps}
 use Rattle.keeping.proofs.Rules.{delete-room, drop-room, prepare-room, sync-room, mark-room, unmark-room, unmark-all-room, delete-tag-room, replace-tag-room, well-of, volumes-of, presence-of, tags-of, no-volumes, no-commits, no-presence, no-tags}
@@ -24,7 +25,7 @@ use Rattle.keeping.proofs.Rules.{delete-room, drop-room, prepare-room, 
 -- ---- volumes
 
 module _ (t u : List ℕ) (vid : Id) where
-  pub delete-keeps : u ≡ after volumeBytes (λ w. w) t (lent (volumesOk t) (volumeDelete (volumesIn t) vid)) → Keeps (volumesAlone (volumesIn t)) (deletingVolume vid) (volumesAlone (volumesIn u))
+  pub delete-keeps : u ≡ after volumeBytes (λ w. w) t (lent (volumesOk t) (volumeDelete (volumesIn t) vid)) → Keeps (volumesAlone (volumesIn t)) (deletingVolume vid) (volumesAlone (volumesIn u)) × StaysFormed volumesOk t u
   unfolding does typed
   delete-keeps e =
       keeps Layouts.volumes t u (volumesOk t) (volumeDelete (volumesIn t) vid) (λ w. w) volumesAlone (deletingVolume vid) e (λ ok. record {
@@ -36,7 +37,7 @@ module _ (t u : List ℕ) (vid : Id) where
         room = λ x q. delete-room (volumesIn t) vid x q;
       })
 
-  pub drop-keeps : u ≡ after volumeBytes (λ w. w) t (lent (volumesOk t) (dropPending (volumesIn t) vid)) → Keeps (volumesAlone (volumesIn t)) (dropping vid) (volumesAlone (volumesIn u))
+  pub drop-keeps : u ≡ after volumeBytes (λ w. w) t (lent (volumesOk t) (dropPending (volumesIn t) vid)) → Keeps (volumesAlone (volumesIn t)) (dropping vid) (volumesAlone (volumesIn u)) × StaysFormed volumesOk t u
   unfolding does typed
   drop-keeps e =
       keeps Layouts.volumes t u (volumesOk t) (dropPending (volumesIn t) vid) (λ w. w) volumesAlone (dropping vid) e (λ ok. record {
@@ -51,7 +52,7 @@ module _ (t u : List ℕ) (vid : Id) where
   -- commits are read
   module _ (cs : List ℕ) where
     pub sync-keeps : u ≡ after volumeBytes (λ w. w) t (lent (volumesOk t && commitsOk cs) (sync (volumesIn t) (commitsIn cs) vid))
-        → Keeps (volumesAnd (commitsIn cs) (volumesIn t)) (syncing vid) (volumesAnd (commitsIn cs) (volumesIn u))
+        → Keeps (volumesAnd (commitsIn cs) (volumesIn t)) (syncing vid) (volumesAnd (commitsIn cs) (volumesIn u)) × StaysFormed volumesOk t u
     unfolding does typed
     sync-keeps e =
         keeps Layouts.volumes t u (volumesOk t && commitsOk cs) (sync (volumesIn t) (commitsIn cs) vid) (λ w. w) (volumesAnd (commitsIn cs)) (syncing vid) e (λ ok.
@@ -66,7 +67,7 @@ module _ (t u : List ℕ) (vid : Id) where
         })
 
     pub prepare-keeps : (p : Pending) → typed (preparing vid p) ≡ true → u ≡ after volumeBytes (λ w. w) t (lent (volumesOk t && commitsOk cs) (prepare (volumesIn t) (commitsIn cs) vid p))
-        → Keeps (volumesAnd (commitsIn cs) (volumesIn t)) (preparing vid p) (volumesAnd (commitsIn cs) (volumesIn u))
+        → Keeps (volumesAnd (commitsIn cs) (volumesIn t)) (preparing vid p) (volumesAnd (commitsIn cs) (volumesIn u)) × StaysFormed volumesOk t u
     unfolding does
     prepare-keeps p y e =
         keeps Layouts.volumes t u (volumesOk t && commitsOk cs) (prepare (volumesIn t) (commitsIn cs) vid p) (λ w. w) (volumesAnd (commitsIn cs)) (preparing vid p) e (λ ok.
@@ -84,7 +85,7 @@ module _ (t u : List ℕ) (vid : Id) where
 
 module _ (t u : List ℕ) (sid : Id) where
   pub mark-keeps : (page : ℕ) → typed (marking sid page) ≡ true → u ≡ after presentBytes (λ w. w) t (lent (presenceOk t) (pageMark (presenceIn t) sid page))
-      → Keeps (presenceAlone (presenceIn t)) (marking sid page) (presenceAlone (presenceIn u))
+      → Keeps (presenceAlone (presenceIn t)) (marking sid page) (presenceAlone (presenceIn u)) × StaysFormed presenceOk t u
   unfolding does
   mark-keeps page y e =
       keeps Layouts.presence t u (presenceOk t) (pageMark (presenceIn t) sid page) (λ w. w) presenceAlone (marking sid page) e (λ ok. record {
@@ -97,7 +98,7 @@ module _ (t u : List ℕ) (sid : Id) where
       })
 
   pub unmark-keeps : (page : ℕ) → u ≡ after presentBytes (λ w. w) t (lent (presenceOk t) (pageRemove (presenceIn t) sid page))
-      → Keeps (presenceAlone (presenceIn t)) (unmarking sid page) (presenceAlone (presenceIn u))
+      → Keeps (presenceAlone (presenceIn t)) (unmarking sid page) (presenceAlone (presenceIn u)) × StaysFormed presenceOk t u
   unfolding does typed
   unmark-keeps page e =
       keeps Layouts.presence t u (presenceOk t) (pageRemove (presenceIn t) sid page) (λ w. w) presenceAlone (unmarking sid page) e (λ ok. record {
@@ -110,7 +111,7 @@ module _ (t u : List ℕ) (sid : Id) where
       })
 
   pub unmark-all-keeps : (a b : ℕ) → u ≡ after presentBytes (λ w. w) t (lent (presenceOk t) (pagesRemove (presenceIn t) sid a b))
-      → Keeps (presenceAlone (presenceIn t)) (unmarkingAll sid a b) (presenceAlone (presenceIn u))
+      → Keeps (presenceAlone (presenceIn t)) (unmarkingAll sid a b) (presenceAlone (presenceIn u)) × StaysFormed presenceOk t u
   unfolding does typed
   unmark-all-keeps a b e =
       keeps Layouts.presence t u (presenceOk t) (pagesRemove (presenceIn t) sid a b) (λ w. w) presenceAlone (unmarkingAll sid a b) e (λ ok. record {
@@ -125,7 +126,7 @@ module _ (t u : List ℕ) (sid : Id) where
 -- ---- tags
 
 module _ (t u : List ℕ) (name : Name) where
-  pub delete-tag-keeps : u ≡ after tagBytes (λ w. w) t (lent (tagsOk t) (tagDelete (tagsIn t) name)) → Keeps (tagsAlone (tagsIn t)) (deletingTag name) (tagsAlone (tagsIn u))
+  pub delete-tag-keeps : u ≡ after tagBytes (λ w. w) t (lent (tagsOk t) (tagDelete (tagsIn t) name)) → Keeps (tagsAlone (tagsIn t)) (deletingTag name) (tagsAlone (tagsIn u)) × StaysFormed tagsOk t u
   unfolding does typed
   delete-tag-keeps e =
       keeps Layouts.tags t u (tagsOk t) (tagDelete (tagsIn t) name) (λ w. w) tagsAlone (deletingTag name) e (λ ok. record {
@@ -138,7 +139,7 @@ module _ (t u : List ℕ) (name : Name) where
       })
 
   pub replace-tag-keeps : (vid : Id) → typed (replacingTag name vid) ≡ true → u ≡ after tagBytes (λ (p : Option Id × Table Tag). p .1) t (lent (tagsOk t) (tagReplace (tagsIn t) name vid))
-      → Keeps (tagsAlone (tagsIn t)) (replacingTag name vid) (tagsAlone (tagsIn u))
+      → Keeps (tagsAlone (tagsIn t)) (replacingTag name vid) (tagsAlone (tagsIn u)) × StaysFormed tagsOk t u
   unfolding does
   replace-tag-keeps vid y e =
       keeps Layouts.tags t u (tagsOk t) (tagReplace (tagsIn t) name vid) (λ p. p .1) tagsAlone (replacingTag name vid) e (λ ok. record {

@@ -2,3 +2,11 @@ pub mod Kept
 pub mod Laws
 pub mod Rules
 pub mod Calls
+pub mod Recovered
+pub mod Rooms
+pub mod Stored
+pub mod Losing
+pub mod Writes
+pub mod Copies
+pub mod Opening
+pub mod Freshness
