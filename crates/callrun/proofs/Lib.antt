@@ -1,1 +1,2 @@
+pub mod Newline
 pub mod Short

@@ -6,8 +6,8 @@ use lib.ListN.{length-append}
 use Rattle.calltext.specs.Output.{outputLine}
 use Rattle.callline.specs.Texts.{Text}
 use Rattle.callstep.specs.Testers.{Tester}
-use Rattle.callstep.specs.Says.{Prints}
-use Rattle.callstep.proofs.Kept.{line-short}
+use Rattle.callrun.specs.Prints.{Prints}
+use Rattle.callrun.proofs.Newline.{line-short}
 
 pub printed-short : (t : Tester) (line : Text) (number : ℕ) (out : List ℕ) (n : ℕ) (out′ : List ℕ) (left : Tester) → Prints t line number out n out′ left → n ≤ 84
 printed-short t line number out n out′ left p =

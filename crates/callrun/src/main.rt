@@ -1,8 +1,10 @@
-// The call list program: reads lines on standard input and prints one line each. What a line does and prints is proved in callstep; here bytes are read, cut into lines and written.
+// The call list program: reads lines on standard input and prints one line each. What a line does is proved in callstep, and what it prints in the module printed; here bytes are read, cut into lines and written.
+pub mod printed;
+
+use crate::printed::step_printed;
 use callline::texts::piece_end;
-use callstep::lines::keep;
-use callstep::step_printed;
 use calltext::LINE_ROOM;
+use callvalues::lines::keep;
 use libc::STDIN_FILENO;
 use libc::STDOUT_FILENO;
 ghost use mathlib.Core.Path.{_≡_};

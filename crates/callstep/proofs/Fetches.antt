@@ -14,11 +14,12 @@ use Rattle.setbytes.proofs.LaidLaws.{shown-form}
 use Rattle.writecalls.specs.Written.{logsIn, logsOk, writeIn}
 use Rattle.callline.specs.Texts.{Text}
 use Rattle.callline.specs.Says.{rangesIn}
-use Rattle.callstep.specs.Testers.{idOf}
-use Rattle.callstep.specs.Steps.{fetched, fetchOn}
+use Rattle.callvalues.specs.Values.{idOf, fetched}
+use Rattle.callstep.specs.Steps.{fetchOn}
 use Rattle.callstep.specs.Says.{Fetches}
-use Rattle.callstep.proofs.Values.{id-form}
-use Rattle.callstep.proofs.Fetched.{fetched-held, fetched-form, write-same}
+use Rattle.callvalues.proofs.Values.{id-form}
+use Rattle.callvalues.proofs.Fetched.{fetched-held, fetched-form}
+use Rattle.callstep.proofs.Writes.{write-same}
 use Rattle.callstep.proofs.Named.{Named}
 
 module _ (t u w : List ℕ) (log lsn n sid : ℕ) (text : Text) (r : SetAnswer) (k : Named (rangesIn text) r) where

@@ -29,8 +29,9 @@ use Rattle.arguments.specs.declared.Reply.{Reply}
 use Rattle.arguments.specs.Replies.{none-under, given, valueOr}
 use Rattle.arguments.specs.Snapshots.{snapshotIn, snapshotFormed}
 use Rattle.searchcalls.specs.Searches.{searchIn}
-use Rattle.callstep.specs.Testers.{isSet, held}
-use Rattle.callstep.specs.Steps.{findOn, commitHead, foundHead}
+use Rattle.callvalues.specs.Slots.{isSet, held}
+use Rattle.callvalues.specs.Values.{commitHead}
+use Rattle.callstep.specs.Steps.{findOn, foundHead}
 
 -- ---- a commit that is found is stored, and so in form
 

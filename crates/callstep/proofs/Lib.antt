@@ -1,9 +1,7 @@
-pub mod Values
-pub mod Fetched
 pub mod Named
+pub mod Writes
 pub mod Fetches
 pub mod Found
 pub mod Snaps
 pub mod Saved
 pub mod StepLaws
-pub mod Kept

@@ -39,8 +39,10 @@ use Rattle.arguments.proofs.SnapshotLaws.{snapshot-size}
 use Rattle.writecalls.specs.Written.{logsIn}
 use Rattle.savecalls.specs.Saving.{Saved, argumentsIn, saveIn, saveOk, saveOn, outAfter, Leaves}
 use Rattle.savecalls.proofs.Ends.{leaves-same}
-use Rattle.callstep.specs.Testers.{Tester, idOf, isSet, held}
-use Rattle.callstep.specs.Steps.{shortly, savedOn, savedHead, afterSave}
+use Rattle.callvalues.specs.Slots.{isSet, held}
+use Rattle.callvalues.specs.Values.{idOf, shortly}
+use Rattle.callstep.specs.Testers.{Tester}
+use Rattle.callstep.specs.Steps.{savedOn, savedHead, afterSave}
 
 -- ---- the form holds a snapshot of a volume in form, over commits in form
 

@@ -23,9 +23,10 @@ use Rattle.arguments.proofs.SnapshotLaws.{laid-code}
 use Rattle.viewargs.proofs.ViewLaws.{seen}
 use Rattle.opencalls.specs.declared.Wanted.{Wanted}
 use Rattle.opencalls.specs.Opens.{asked, spares, openIn}
-use Rattle.callstep.specs.Testers.{idOf, slotSet, slotsAfter}
-use Rattle.callstep.specs.Steps.{openOn, snapOn, pullOn, shortly, snapHead}
-use Rattle.callstep.proofs.Values.{head-short}
+use Rattle.callvalues.specs.Slots.{slotSet, slotsAfter}
+use Rattle.callvalues.specs.Values.{idOf, shortly}
+use Rattle.callstep.specs.Steps.{openOn, snapOn, pullOn, snapHead}
+use Rattle.callvalues.proofs.Values.{head-short}
 
 -- ---- open
 

@@ -17,7 +17,8 @@ use Rattle.callline.specs.Values.{pagesOf}
 use Rattle.callline.specs.Lines.{Call, Open, Snap, Save, Find, Fetch, Pull, meaning}
 use Rattle.callline.specs.Says.{rangesIn, lineSays, isDone, Placed}
 use Rattle.callstep.specs.declared.Printed.{Printed}
-use Rattle.callstep.specs.Testers.{Tester, slotsAfter}
+use Rattle.callvalues.specs.Slots.{slotsAfter}
+use Rattle.callstep.specs.Testers.{Tester}
 use Rattle.callstep.specs.Steps.{Step, Steps, SetOf, rangesNamed, stepBy, openOn, snapOn, snapHead, savedOn, savedHead, afterSave, findOn, foundHead, fetchOn, pullOn, withVolumes, withSlots, afterWrite}
 use Rattle.callstep.specs.Says.{printedSays, stepped, Saves, Fetches}
 use Rattle.callstep.proofs.Named.{none-named, one-named}

@@ -1,10 +1,8 @@
 -- What the code's answers say, and what its functions for single calls promise.
 use Prim.Native.Nat.{ℕ}
 use mathlib.Core.Path.{_≡_}
-use mathlib.Core.List.{List, [], _∷_, _++_}
+use mathlib.Core.List.{List}
 use mathlib.Core.Option.{Option}
-use lib.ListN.{length}
-use Rattle.octets.specs.Bytes.{put}
 use Rattle.core.specs.Answers.{Answer, code}
 use Rattle.rules.specs.Records.{Pages}
 use Rattle.rules.specs.Write.{Logs}
@@ -12,11 +10,10 @@ use Rattle.layout.specs.Records.{commitBytes, checkpointBytes, entryBytes, pres
 use Rattle.layout.specs.Lent.{after}
 use Rattle.callline.specs.Texts.{Text}
 use Rattle.callline.specs.Says.{rangesIn}
-use Rattle.calltext.specs.Output.{outputLine}
 use Rattle.calltext.specs.Says.{headSays}
 use Rattle.callstep.specs.declared.Printed.{Printed}
 use Rattle.callstep.specs.Testers.{Tester}
-use Rattle.callstep.specs.Steps.{Step, Steps, SetOf, savedOn, savedHead, afterSave, fetchOn}
+use Rattle.callstep.specs.Steps.{Step, SetOf, savedOn, savedHead, afterSave, fetchOn}
 
 -- what is printed
 abbrev pub printedSays : Printed → ℕ × Option (ℕ × ℕ)
@@ -41,11 +38,3 @@ pub record Fetches (commits checkpoints index : List ℕ) (log lsn count sid : �
   pub ofCommits : commits′ ≡ after commitBytes (λ (g : Logs). g .commits) commits (fetchOn commits checkpoints index log lsn count sid pages)
   pub ofCheckpoints : checkpoints′ ≡ after checkpointBytes (λ (g : Logs). g .checkpoints) checkpoints (fetchOn commits checkpoints index log lsn count sid pages)
   pub ofIndex : index′ ≡ after entryBytes (λ (g : Logs). g .index) index (fetchOn commits checkpoints index log lsn count sid pages)
-
--- the bytes of a printed line and its newline, over the first of those that are lent
-pub record Prints (t : Tester) (line : Text) (number : ℕ) (out : List ℕ) (n : ℕ) (out′ : List ℕ) (left : Tester) : Type 0 where
-  pub code : ℕ
-  pub head : Option (ℕ × ℕ)
-  pub steps : Steps t line (record { code = code; head = head; tester = left })
-  pub bytes : out′ ≡ put 0 (outputLine number code head ++ (10 ∷ [])) out
-  pub long : n ≡ length (outputLine number code head ++ (10 ∷ []))

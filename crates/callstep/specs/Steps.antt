@@ -4,7 +4,7 @@ use mathlib.Core.Path.{_≡_}
 use mathlib.Core.Bool.{true, _&&_}
 use mathlib.Core.List.{List, []}
 use mathlib.Core.Option.{Option, none, some}
-use lib.ListN.{getD, replicate}
+use lib.ListN.{replicate}
 use Rattle.core.specs.Answers.{Answer, refused, done, code, need, _>>=_}
 use Rattle.pageset.specs.Sets.{holds, normalForm}
 use Rattle.pageset.specs.Says.{Over32}
@@ -26,7 +26,9 @@ use Rattle.callline.specs.Texts.{Text}
 use Rattle.callline.specs.Values.{Range, malformed}
 use Rattle.callline.specs.Lines.{Call, Open, Snap, Save, Find, Fetch, Pull, meaning}
 use Rattle.callpages.specs.Pages.{inRanges}
-use Rattle.callstep.specs.Testers.{Tester, idOf, slotIn, slotsAfter}
+use Rattle.callvalues.specs.Slots.{slotIn, slotsAfter}
+use Rattle.callvalues.specs.Values.{idOf, fetched, shortly, commitHead}
+use Rattle.callstep.specs.Testers.{Tester}
 
 -- ---- the set of the pages that a line names
 
@@ -75,10 +77,6 @@ findOn commits index slots slot page = do
   s ← need (slotIn slots slot) malformed
   lent (commitsOk commits && indexOk index) (searchIn (commitsIn commits) (indexIn index) s page (replicate 722 0))
 
--- the commit of op=fetch: no hash, frames or checkpoints
-abbrev pub fetched : Id → ℕ → ℕ → Id → Pages → Commit
-fetched log lsn count sid ws = record { log = log; lsn = lsn; count = count; hash = none; segment = some (record { sid = sid; pages = ws; frames = [] }); checkpoints = [] }
-
 -- op=fetch: 22, then write a commit
 unfoldable pub fetchOn : (commits checkpoints index : List ℕ) (log lsn count sid : ℕ) → Answer Pages → Answer Logs
 fetchOn commits checkpoints index log lsn count sid pages = do
@@ -90,14 +88,6 @@ unfoldable pub pullOn : (volumes commits : List ℕ) (vid : ℕ) → Answer (Tab
 pullOn volumes commits vid = lent (volumesOk volumes && commitsOk commits) (sync (volumesIn volumes) (commitsIn commits) (idOf vid))
 
 -- ---- what is printed: the code, then the last byte of the log and the LSN of the snapshot's head or the found commit
-
-abbrev pub shortly : Option (Id × ℕ) → Option (ℕ × ℕ)
-shortly none = none
-shortly (some h) = some (getD (h .0) 15 0, h .1)
-
-abbrev pub commitHead : Option Commit → Option (ℕ × ℕ)
-commitHead none = none
-commitHead (some c) = some (getD (c .log) 15 0, c .lsn)
 
 -- none on a refusal
 abbrev pub headBy : {A : Type 0} → (A → Option (ℕ × ℕ)) → Answer A → Option (ℕ × ℕ)

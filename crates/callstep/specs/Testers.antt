@@ -1,14 +1,6 @@
 -- The tester as a call list has it: five tables and four slots, in lent bytes. (No line names a tag.)
-use Prim.Native.Nat.{ℕ, _+_, _*_}
-use mathlib.Core.Bool.{Bool, cond, not}
-use mathlib.Core.List.{List, [], _∷_, _++_}
-use mathlib.Core.Option.{Option, none, some}
-use lib.Dec.{eqb}
-use lib.ListN.{getD, replicate}
-use Rattle.octets.specs.Bytes.{part, put}
-use Rattle.core.specs.Answers.{Answer, refused, done}
-use Rattle.rules.specs.Records.{Id, Snapshot}
-use Rattle.layout.specs.Values.{snapshotBytes}
+use Prim.Native.Nat.{ℕ}
+use mathlib.Core.List.{List}
 
 pub record Tester : Type 0 where
   pub volumes : List ℕ
@@ -17,30 +9,3 @@ pub record Tester : Type 0 where
   pub index : List ℕ
   pub presence : List ℕ
   pub slots : List ℕ
-
--- two hex digits are an identifier's last byte, the rest zero
-unfoldable pub idOf : ℕ → Id
-idOf b = replicate 15 0 ++ (b ∷ [])
-
--- ---- slots 0 to 3 hold snapshots: a byte, 0 while the slot is unset, and the 262 bytes of a snapshot
-
--- a slot holds a snapshot
-unfoldable pub isSet : List ℕ → ℕ → Bool
-isSet slots k = not (eqb (getD slots (k * 263) 0) 0)
-
--- its bytes
-unfoldable pub held : List ℕ → ℕ → List ℕ
-held slots k = part (k * 263 + 1) 262 slots
-
--- the snapshot of a slot, in bytes, if it is set
-abbrev pub slotIn : List ℕ → ℕ → Option (List ℕ)
-slotIn slots k = cond (isSet slots k) (some (held slots k)) none
-
--- a slot set to a snapshot
-unfoldable pub slotSet : ℕ → Snapshot → List ℕ → List ℕ
-slotSet k s slots = put (k * 263) (1 ∷ snapshotBytes .spell s) slots
-
--- a slot is set by a successful snap only
-abbrev pub slotsAfter : ℕ → List ℕ → Answer Snapshot → List ℕ
-slotsAfter k slots (refused n) = slots
-slotsAfter k slots (done s) = slotSet k s slots

@@ -1,10 +1,10 @@
 // The six calls of a call list, each on the bytes that it is lent and the values of its line.
 use super::Printed;
-use crate::made;
-use crate::made::id_of;
-use crate::slots;
 use callpages::page_set;
 use calltext::Head;
+use callvalues::made;
+use callvalues::made::id_of;
+use callvalues::slots;
 use core::lsn::Lsn;
 use core::page_count::PageCount;
 use core::pageidx::PageIdx;
@@ -21,7 +21,9 @@ ghost use Rattle.layout.specs.Records.{volumeBytes};
 ghost use Rattle.layout.specs.Lent.{after};
 ghost use Rattle.callline.specs.Values.{pagesOf};
 ghost use Rattle.callline.specs.Says.{isDone};
-ghost use Rattle.callstep.specs.Testers.{Tester, idOf, slotsAfter};
+ghost use Rattle.callvalues.specs.Slots.{slotsAfter};
+ghost use Rattle.callvalues.specs.Values.{idOf};
+ghost use Rattle.callstep.specs.Testers.{Tester};
 ghost use Rattle.callstep.specs.Steps.{openOn, snapOn, snapHead, findOn, foundHead, pullOn};
 ghost use Rattle.callstep.specs.Says.{printedSays, Saves, Fetches};
 

@@ -6,7 +6,7 @@ use borrow.Author.Tests.{not-true, not-false}
 use mir.Val.{Fits}
 use mir.Syntax.{w8, w32}
 use Rattle.rules.specs.Forms.{idForm}
-use Rattle.callstep.proofs.Values.{id-form}
+use Rattle.callvalues.proofs.Values.{id-form}
 use Rattle.callstep.proofs.Named.{named}
 use Rattle.callstep.proofs.Saved.{stays, unset, over, leaves, refuses, saves, typed}
 use borrow.Author.Needs.{needs}
