@@ -1,8 +1,8 @@
 //! The archive's functions, as the Rattle crate `boundary` exports them. `tests/declarations.rs` compares this file with that
 //! crate's source, parameter by parameter.
 //!
-//! How Rattle's parameters cross: `&[u8]` and `&mut [u8]` are two, a pointer and a length; `&[u8; 16]`, `&mut [u8; 16]`, `&mut u32` and
-//! `&mut u64` are one pointer; `&mut &[u8]` is a pointer to a pointer and a length, which is `Part`.
+//! How Rattle's parameters cross: `&[u8]` and `&mut [u8]` are two, a pointer and a length; `&[u8; 16]`, `&[u8; 32]`, `&mut [u8; 16]`, `&mut u32`
+//! and `&mut u64` are one pointer; `&mut &[u8]` is a pointer to a pointer and a length, which is `Part`.
 
 /// What every call answers: document 01's number, and whether an answer was found.
 ///

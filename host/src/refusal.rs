@@ -3,7 +3,7 @@ use crate::raw::Reply;
 
 macro_rules! refusals {
     ($($number:literal $name:ident $words:literal;)*) => {
-        /// A refusal: document 01's number with its words. A refused call changed no lent byte.
+        /// A refusal: document 01's number with its words. A refused call changed no lent byte, but for recover's 8, which dropped the pending commit.
         #[derive(Clone, Copy, Debug, PartialEq, Eq, PartialOrd, Ord, Hash)]
         #[repr(u8)]
         pub enum Refusal {

@@ -1,5 +1,6 @@
 //! The calls over tables, on lent bytes. A call is lent the tables that it reads or writes, in the order volumes, tags, commits, checkpoints, index,
-//! presence; bytes that are no table are 20, before anything else. A refused call leaves every lent byte as it was.
+//! presence; bytes that are no table are 20, before anything else. A refused call leaves every lent byte as it was, but for recover's 8,
+//! which drops the pending commit.
 
 use crate::raw::{self, Reply};
 
