@@ -7,13 +7,9 @@ use borrow.Author.Tests.{eq-eqb, ne-eqb}
 use lib.Dec.{eqb}
 use lib.ListN.{length}
 use Rattle.octets.specs.Bytes.{part}
-use Rattle.octets.proofs.Places.{part-all}
+pub use Rattle.octets.proofs.Places.{part-whole as whole}
 use Rattle.layout.specs.Codecs.{Codec, inForm}
 use Rattle.arguments.specs.Args.{argument}
-
--- the whole of a slice
-pub whole : (n : ℕ) (b : List ℕ) → length b ≡ n → part 0 n b ≡ b
-whole n b e = ap (λ (k : ℕ). part 0 k b) (sym e) ∙ part-all b
 
 module _ {A B : Type 0} (c : Codec A) (form : A → Bool) (laid : A → B) (bad : B) (n : ℕ) (size : c .size ≡ n) (b : List ℕ) where
   choice : Bool → Bool → B

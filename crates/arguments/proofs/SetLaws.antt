@@ -16,9 +16,10 @@ use Rattle.pageset.specs.declared.PageSet.{PageSet}
 use Rattle.pageset.specs.declared.SetAnswer.{SetAnswer}
 use Rattle.pageset.specs.declared.CutAnswer.{CutAnswer}
 use Rattle.pageset.specs.Sets.{normal, blank, normalForm, rising, windowForms, holds, bit, maskAt, shown, member}
-use Rattle.pageset.specs.Says.{IsSet, Gives, GivesOr22, refusedSet, emptySet, common, left}
+use Rattle.pageset.specs.Says.{IsSet, Gives, GivesOr22, refusedSet, common, left}
 use Rattle.pageset.proofs.ResultLaws.{one-set}
 use Rattle.pageset.proofs.FormLaws.{and-snd}
+pub use Rattle.pageset.proofs.FormLaws.{empty-normal}
 use Rattle.layout.specs.Codecs.{inForm}
 use Rattle.layout.proofs.HoldLaws.{in-form}
 use Rattle.layout.proofs.FormHolds.{set-held}
@@ -91,10 +92,10 @@ Early (done a) = Unit {0}
 pub is-early : (n : ℕ) → 0 < n → n < 4 → early n ≡ true
 is-early n l h = rw (ne-eqb n 0 (λ e. omega arith), ne-eqb n 22 (λ e. omega arith))
 
-pub none-early : (n : ℕ) → n ≡ 0 → early n ≡ false
+none-early : (n : ℕ) → n ≡ 0 → early n ≡ false
 none-early n e = rw e
 
-pub last-early : (n : ℕ) → n ≡ 22 → early n ≡ false
+last-early : (n : ℕ) → n ≡ 22 → early n ≡ false
 last-early n e = rw e
 
 module _ (found : ℕ) (was : List ℕ) (a : SetAnswer) where
@@ -125,12 +126,12 @@ module _ (found : ℕ) (was : List ℕ) (a : SetAnswer) where
         sym (put-short found was a (last-early (a .code) c) (eqb-false (length was) 385 l))
 
   -- a set, or the number
-  pub leaves-set : (q : Answer (ℕ → Bool)) → Early q → Gives a q → LeavesSet found was q put-left
+  leaves-set : (q : Answer (ℕ → Bool)) → Early q → Gives a q → LeavesSet found was q put-left
   leaves-set (refused n) e h = refused-left n (e .0) (e .1) h
   leaves-set (done f) e h = rw set-size (set-left f (h .0) (h .1) (eqb (length was) 385) refl)
 
   -- and 22
-  pub leaves-set-or-22 : (q : Answer (ℕ → Bool)) → Early q → GivesOr22 a q → LeavesSetOr22 found was q put-left
+  leaves-set-or-22 : (q : Answer (ℕ → Bool)) → Early q → GivesOr22 a q → LeavesSetOr22 found was q put-left
   leaves-set-or-22 (refused n) e h = refused-left n (e .0) (e .1) h
   leaves-set-or-22 (done f) e h = rw set-size (set-or-22 f h (eqb (length was) 385) refl)
 
@@ -156,10 +157,6 @@ module _ (found found′ : ℕ) (was : List ℕ) (a : SetAnswer) where
   same-found h = by-code (eqb (a .code) 0) refl h
 
 -- an answer under 0 is in normal form, and so is a refusal's empty set
-pub empty-normal : normal emptySet ≡ true
-unfolding normal blank normalForm rising windowForms holds bit maskAt
-empty-normal = refl
-
 pub given-normal : (a : SetAnswer) (q : Answer (ℕ → Bool)) → Gives a q → normal (a .set) ≡ true
 given-normal a (refused n) h = ap (λ (x : SetAnswer). normal (x .set)) h ∙ empty-normal
 given-normal a (done f) h = h .1 .normal
@@ -234,7 +231,7 @@ module _ (was was′ : List ℕ) (a : CutAnswer) where
     halves false m p q = subst (Halves false m f g) (cut-short e (eqb-false (length was) 385 p)) (refl, refl)
 
   -- the two rules of a cut refuse by the same number
-  pub leaves-cut : (b : Bool) (f g : ℕ → Bool) → Gives (common a) (ask b 3 >> done f) → Gives (left a) (ask b 3 >> done g) → LeavesCut was was′ (ask b 3 >> done f) (ask b 3 >> done g) cutLeft
+  leaves-cut : (b : Bool) (f g : ℕ → Bool) → Gives (common a) (ask b 3 >> done f) → Gives (left a) (ask b 3 >> done g) → LeavesCut was was′ (ask b 3 >> done f) (ask b 3 >> done g) cutLeft
   unfolding Halves
   leaves-cut true f g h k = rw set-size (halves f g (h .0) (h .1) (k .1) (eqb (length was) 385) (eqb (length was′) 385) refl refl)
   leaves-cut false f g h k =

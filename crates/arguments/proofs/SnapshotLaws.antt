@@ -243,6 +243,11 @@ module _ (b : List ℕ) (s : declared.Snapshot) (e : s ≡ Snap.laid (snapshotIn
   pub arg-says : Snap.snapshotSays s ≡ snapshotIn b
   arg-says = ap Snap.snapshotSays e ∙ laid-says (snapshotIn b)
 
+  -- it has at most 8 ranges
+  pub arg-few : s .len ≤ 8
+  unfolding Snap.laid
+  arg-few = omega (arith, in-few b, ap (λ (x : declared.Snapshot). x .len) e)
+
   arg-formed : Snap.inForm s ≡ true
   arg-formed = ap Snap.inForm e ∙ laid-formed (snapshotIn b) (in-few b)
 

@@ -19,7 +19,7 @@ use Rattle.batch.specs.Batch.{putAll, lacks, fresh}
 use Rattle.batch.proofs.Puts.{putAll-append, length-putAll-le, lacks-none, lacks-append, lacks-later, fresh-append}
 
 -- every record of l is below y
-abbrev pub Below : ℕ → List (List ℕ) → List ℕ → Type 0
+abbrev Below : ℕ → List (List ℕ) → List ℕ → Type 0
 Below k [] y = Unit {0}
 Below k (x ∷ l) y = (cmp k x y ≡ Less) × Below k l y
 

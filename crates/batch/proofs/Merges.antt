@@ -16,7 +16,7 @@ use Rattle.octets.proofs.Places as P
 use Rattle.table.specs.Records.{rises, spot, place, hits, past}
 use Rattle.table.specs.Table.{runs, join, Each, countOf, recs, laid, wellOrdered, fits}
 use Rattle.table.proofs.Keys.{rises-take}
-use Rattle.table.proofs.Rows.{rows-le, rows-lt, put-within, length-runs, runs-last, take-runs, drop-runs, join-runs, runs-same, each-runs, length-join, join-append, join-none, join-cons, each-append, each-drop, length-recs, each-recs, cap-small, cap-room, fits-cap}
+use Rattle.table.proofs.Rows.{rows-le, rows-lt, length-runs, runs-last, take-runs, drop-runs, join-runs, runs-same, each-runs, length-join, join-append, join-none, join-cons, each-append, each-drop, length-recs, each-recs, cap-small, cap-room, fits-cap}
 use Rattle.table.proofs.Checks.{well-two, well-rises, well-room}
 use Rattle.batch.specs.Batch.{putAll, fresh, lifted, Merged}
 use Rattle.batch.proofs.Puts.{each-putAll, length-putAll, news-rising}
@@ -48,7 +48,7 @@ pub record Ready (s k c : ℕ) (all : List (List ℕ)) (t₀ : List ℕ) : Type 
 
 module _ (s k c : ℕ) (all : List (List ℕ)) (t₀ : List ℕ) (y : Ready s k c all t₀) where
   -- the number of records after
-  pub total-is : length (putAll k all (recs s t₀)) ≡ countOf t₀ + c
+  total-is : length (putAll k all (recs s t₀)) ≡ countOf t₀ + c
   total-is =
       length-putAll k all (recs s t₀) (well-rises s k t₀ (y .well)) ∙ omega (arith, length-recs s t₀, news-rising k all (recs s t₀) (y .up), y .new)
 
@@ -152,7 +152,7 @@ module _ (s k e i d : ℕ) (rs : List (List ℕ)) (y : List ℕ) (all : List (Li
               ∙ sym (join-cons y (drop z l ++ q .made));
           outside = λ ys ey.
               let ie : (i + d) * s ≤ e * s = rows-le s {i = i + d} {n = e} (omega (arith, q .sum)) in
-              ap (B.put 2 ys) eu ∙ put-within 2 at (y ++ x) ys t (omega arith) (omega arith) (omega (arith, q .size)) ∙ q .outside ys ey;
+              ap (B.put 2 ys) eu ∙ P.put-within 2 at (y ++ x) ys t (omega arith) (omega arith) (omega (arith, q .size)) ∙ q .outside ys ey;
           size = ap length eu ∙ P.length-put at (y ++ x) t (omega arith) ∙ q .size;
         }
 

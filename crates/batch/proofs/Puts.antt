@@ -2,8 +2,7 @@
 -- after are those held plus the distinct new keys.
 use mathlib.Core.Path.{_≡_, refl, sym, ap, _∙_}
 use mathlib.Core.Bool.{true}
-use mathlib.Core.List.{List, [], _∷_, _++_, append-assoc}
-use mathlib.Core.Option.{Option, some, none}
+use mathlib.Core.List.{List, [], _∷_, _++_}
 use Prim.Native.Nat.{ℕ, _+_, _*_, _≤_}
 use native.Mathlib.Omega.{arith}
 use lib.ListN.{length, take, drop, take-append-drop}
@@ -57,14 +56,6 @@ pub lacks-none : (k : ℕ) (x : List ℕ) → lacks k x [] ≡ 1
 unfolding lacks
 lacks-none k x = refl
 
-pub lacks-le : (k : ℕ) (x : List ℕ) (l : List (List ℕ)) → lacks k x l ≤ 1
-unfolding lacks
-lacks-le k x l = go (look k x l)
-  where
-    go : (o : Option (List ℕ)) → gone o ≤ 1
-    go none = omega arith
-    go (some y) = omega arith
-
 -- a put adds its key, as a first record would
 lacks-put-same : (k : ℕ) (r : List ℕ) (l : List (List ℕ)) → lacks k r (put k r l) ≡ 0
 unfolding lacks
@@ -74,7 +65,7 @@ lacks-put-other : (k : ℕ) (x r : List ℕ) (l : List (List ℕ)) → (cmp k x 
 unfolding lacks
 lacks-put-other k x r l n = ap gone (look-put-other k x r l n)
 
-pub lacks-put : (k : ℕ) (x r : List ℕ) (l : List (List ℕ)) → lacks k x (put k r l) ≡ lacks k x (r ∷ l)
+lacks-put : (k : ℕ) (x r : List ℕ) (l : List (List ℕ)) → lacks k x (put k r l) ≡ lacks k x (r ∷ l)
 lacks-put k x r l =
     equal? (cmp k x r)
     (λ e. lacks-like k x r (put k r l) e ∙ lacks-put-same k r l ∙ sym (lacks-cons-same k x r l e))
@@ -121,18 +112,13 @@ news-first k r [] l = refl
 news-first k r (s ∷ rs) l =
     omega (arith, news-first k r rs l, lacks-mid k s r rs l, exchange k r s (rs ++ l))
 
-pub length-put : (k : ℕ) (r : List ℕ) (l : List (List ℕ)) → rises k l ≡ true → length (put k r l) ≡ length l + lacks k r l
+length-put : (k : ℕ) (r : List ℕ) (l : List (List ℕ)) → rises k l ≡ true → length (put k r l) ≡ length l + lacks k r l
 unfolding lacks
 length-put k r l h = go (spot k r l) refl
   where
     go : (p : Spot) → spot k r l ≡ p → length (put k r l) ≡ length l + gone (look k r l)
     go (At i) e = rw (look-at k r l i e) (length-put-at k r l i e ∙ omega arith)
     go (Gap i) e = rw (look-gap k r l i h e) (length-put-gap k r l i e)
-
--- the new keys of two batches: those of the second, and those of the first that the second does not name
-pub news-append : (k : ℕ) (a b l : List (List ℕ)) → news k (a ++ b) l ≡ news k a (b ++ l) + news k b l
-news-append k [] b l = omega arith
-news-append k (r ∷ a) b l = omega (arith, news-append k a b l, ap (lacks k r) (append-assoc a b l))
 
 -- of a batch in two parts, those of each
 pub fresh-append : (k : ℕ) (a b l : List (List ℕ)) → fresh k (a ++ b) l ≡ fresh k a l + fresh k b l

@@ -41,7 +41,7 @@ lacks-all s k t key n r e f = f ∙ ap (λ (m : ℕ). lacks k key (runs m s 2 t)
 
 -- ---- what is left of a batch
 
-pub runs-none : (s n i from : ℕ) (b : List ℕ) → n ≤ i → runs (n - i) s from b ≡ []
+runs-none : (s n i from : ℕ) (b : List ℕ) → n ≤ i → runs (n - i) s from b ≡ []
 unfolding runs
 runs-none s n i from b h =
     let e : n - i ≡ 0 = omega arith in

@@ -66,7 +66,7 @@ most (suc (suc (suc (suc (suc zero))))) = omega arith
 most (suc (suc (suc (suc (suc (suc n)))))) = omega arith
 
 module _ (table n s : ℕ) (same : s ≡ recordSize table) where
-  pub size-most : s ≤ 722
+  size-most : s ≤ 722
   unfolding recordSize
   size-most = rw (same ∙ sym (at-place sizes recordSizes are-sizes table table refl)) (most table)
 

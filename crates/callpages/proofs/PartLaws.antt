@@ -11,11 +11,11 @@ use lib.Dec.{leb, ltb}
 use Rattle.core.specs.Answers.{Answer, refused, done, ask, _>>=_, _>>_}
 use Rattle.pageset.specs.declared.PageSet.{PageSet}
 use Rattle.pageset.specs.declared.SetAnswer.{SetAnswer}
-use Rattle.pageset.specs.Sets.{bit, maskAt, holds, rising as risingWindows, windowForms, normalForm, blank, member, normal}
+use Rattle.pageset.specs.Sets.{maskAt, holds, member, normal}
 use Rattle.pageset.specs.Rules.{within}
 use Rattle.pageset.specs.Says.{IsSet, GivesOr22, emptySet, refusedSet}
 use Rattle.pageset.proofs.BitLaws.{bit-none}
-use Rattle.pageset.proofs.FormLaws.{and-fst, and-snd, normal-fact}
+use Rattle.pageset.proofs.FormLaws.{and-fst, and-snd, normal-fact, empty-normal}
 use Rattle.pageset.proofs.WindowLaws.{lt-or}
 use Rattle.callline.specs.Texts.{Text, split, isText}
 use Rattle.callline.specs.Values.{Range, malformed, rangeOf, follows, rising, dash, pagesOf}
@@ -51,7 +51,7 @@ taken-test low r ps rest true e k =
     k
 taken-test low r ps rest false e k = absurd (refused-done malformed rest k)
 
-pub taken : (low : ℕ) (p : Text) (ps : List Text) (rest : List Range) → rising low (p ∷ ps) ≡ done rest → (r : Range) → rangeOf p ≡ done r → Taken low r ps rest
+taken : (low : ℕ) (p : Text) (ps : List Text) (rest : List Range) → rising low (p ∷ ps) ≡ done rest → (r : Range) → rangeOf p ≡ done r → Taken low r ps rest
 unfolding rising
 taken low p ps rest h r e = taken-test low r ps rest (follows low r) refl (ap (λ (x : Answer Range). x >>= λ r. ask (follows low r) malformed >> (rising (r .last) ps >>= λ rs. done (r ∷ rs))) (sym e) ∙ h)
 
@@ -85,10 +85,6 @@ pub record Part (t : Text) (ps : List Text) (s : PageSet) : Type 0 where
   pub formed : normal s ≡ true
   pub below : (q : ℕ) → low < q → member s q ≡ false
   pub pages : (q : ℕ) → (member s q || inRanges rest q) ≡ inRanges ranges q
-
-empty-normal : normal emptySet ≡ true
-unfolding normal normalForm blank risingWindows windowForms holds maskAt bit
-empty-normal = refl
 
 empty-pages : (q : ℕ) → member emptySet q ≡ false
 unfolding holds maskAt

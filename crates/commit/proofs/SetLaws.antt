@@ -1,22 +1,14 @@
--- Sets by value and the rules' lists of windows: a set in normal form shows such a list, and a list in order is known by its pages. Assumes nothing.
+-- The rules' lists of windows: a list in order is known by its pages. Assumes nothing.
 use Prim.Native.Nat.{ℕ, _+_, _*_, _/_, _%_}
 use mathlib.Core.Path.{_≡_, sym, ap₂, _∙_}
-use mathlib.Core.Bool.{true, _&&_}
 use mathlib.Core.List.{List}
 use native.Mathlib.Omega.{arith}
-use lib.Dec.{eqb, leb}
-use lib.ListN.{length, drop}
 use Rattle.pageset.specs.declared.Window.{Window}
-use Rattle.pageset.specs.declared.PageSet.{PageSet}
-use Rattle.pageset.specs.Sets.{bit, maskAt, holds, shown, blank, normalForm, normal}
+use Rattle.pageset.specs.Sets.{bit, maskAt, holds}
 use Rattle.pageset.proofs.BitLaws.{bit-ext}
-use Rattle.pageset.proofs.FormLaws.{and-snd, Rises}
+use Rattle.pageset.proofs.FormLaws.{Rises}
+pub use Rattle.pageset.proofs.FormLaws.{shown-form as form-of}
 use Rattle.pageset.proofs.WindowLaws.{mask-lt, known}
-
--- a set by value shows windows in normal form
-pub form-of : (s : PageSet) → normal s ≡ true → normalForm (shown s) ≡ true
-unfolding normal
-form-of s e = and-snd (leb (s .len) 32 && eqb (length (s .windows)) 32 && blank (drop (s .len) (s .windows))) (normalForm (shown s)) e
 
 -- a list of windows in order is known by its pages
 pub one-list : (a b : List Window) → Rises 0 a → Rises 0 b → ((p : ℕ) → holds a p ≡ holds b p) → a ≡ b

@@ -1,20 +1,19 @@
 -- A commit in bytes: its fields, one after another, each at its place. Its form asks for the form of its key, its hash, its segment and its checkpoints; any four
 -- bytes are a page count. Assumes nothing.
-use Prim.Native.Nat.{ℕ, suc, _+_, _-_, _*_, _^_, _≤_, _<_, min}
+use Prim.Native.Nat.{ℕ, suc, _+_, _-_, _^_, _≤_, _<_, min}
 use mathlib.Core.Path.{_≡_, refl, sym, ap, ap₂, _∙_}
-use mathlib.Core.Bool.{Bool, true, false, cond, _&&_}
+use mathlib.Core.Bool.{Bool, true, false, _&&_}
 use mathlib.Core.Option.{Option, none, some}
 use mathlib.Core.List.{List, _++_, append-assoc}
 use native.Mathlib.Omega.{arith}
 use borrow.Author.Tests.{le-leb, lt-ltb, le-ltb}
 use lib.Dec.{leb}
-use lib.ListN.{length, take, replicate, length-replicate}
+use lib.ListN.{length, length-replicate}
 use lib.Seq.{take-all}
 use Rattle.octets.specs.Bytes.{be, bytesOf, part, put, AreBytes}
 use Rattle.octets.proofs.Numbers as N
 use Rattle.octets.proofs.Places as P
 use Rattle.core.specs.Numbers.{counts, lastPage}
-use Rattle.pageset.proofs.FormLaws.{and-left}
 use Rattle.rules.specs.Lists.{all, given}
 use Rattle.rules.specs.Records as R
 use Rattle.rules.specs.Arguments.{commitLsns}
@@ -49,9 +48,6 @@ segment-steady =
 -- ---- one value, and then another, at a place that is known by a sum
 
 module _ {A B : Type 0} (c : Codec A) (d : Codec B) (s : List ℕ) (at next : ℕ) (e : at + c .size ≡ next) where
-  read-next : pair c d .read (part at (c .size + d .size) s) ≡ (c .read (part at (c .size) s), d .read (part next (d .size) s))
-  read-next = pair-read s at c d next e
-
   form-next : (f : A → Bool) (g : B → Bool) → Steady c → AreBytes s → at + (c .size + d .size) ≤ length s
       → inForm (pair c d) (λ x. f (x .0) && g (x .1)) (part at (c .size + d .size) s) ≡ inForm c f (part at (c .size) s) && inForm d g (part next (d .size) s)
   form-next f g st ab h = pair-at s ab at c d f g next st e (omega arith)
@@ -85,10 +81,10 @@ module _ (s : List ℕ) (at : ℕ) where
       ap commitOf
       (pair-read s at logLsnBytes counted (at + 25) refl
       ∙ ap₂ (λ (k : List ℕ × ℕ) (r : ℕ × (Option R.Hash × (Option R.Segment × List ℕ))). (k, r)) (key-at s at)
-      (read-next (number 4) hashed s (at + 25) (at + 29) (omega arith)
+      (pair-read s (at + 25) (number 4) hashed (at + 29) (omega arith)
       ∙ ap (λ (r : Option R.Hash × (Option R.Segment × List ℕ)). (be (part (at + 25) 4 s), r))
-      (read-next (optional hashBytes) ends s (at + 29) (at + 62) (omega arith)
-      ∙ ap (λ (r : Option R.Segment × List ℕ). (optional hashBytes .read (part (at + 29) 33 s), r)) (read-next (optional segmentBytes) lists s (at + 62) (at + 657) (omega arith)))))
+      (pair-read s (at + 29) (optional hashBytes) ends (at + 62) (omega arith)
+      ∙ ap (λ (r : Option R.Segment × List ℕ). (optional hashBytes .read (part (at + 29) 33 s), r)) (pair-read s (at + 62) (optional segmentBytes) lists (at + 657) (omega arith)))))
 
   -- ---- the form
 

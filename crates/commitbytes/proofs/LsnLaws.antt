@@ -6,7 +6,6 @@ use mathlib.Core.List.{List, [], _∷_, _++_, map}
 use native.Mathlib.Omega.{arith}
 use native.Mathlib.Numerals.{add-one}
 use borrow.Author.Tests.{le-leb, lt-ltb, le-ltb}
-use lib.Dec.{leb, ltb}
 use lib.ListN.{length, take, drop, getD, replicate, length-map, length-take, drop-of-length-le}
 use lib.Seq.{drop-cons}
 use Rattle.octets.specs.Bytes.{be, bytesOf, part, put, AreBytes, allZero}
@@ -20,14 +19,15 @@ use Rattle.core.specs.declared.lsn.Lsn.{Lsn}
 use Rattle.core.specs.Numbers.{counts, lastLsn}
 use Rattle.rules.specs.Lists.{all}
 use Rattle.rules.specs.Forms.{lsnForm}
-use Rattle.layout.specs.Codecs.{Codec, number, listed, inForm}
+use Rattle.layout.specs.Codecs.{number, listed, inForm}
 use Rattle.layout.proofs.SpellLaws.{number-steady, number-spelled}
 use Rattle.setbytes.proofs.ListLaws.{length-read, read-nth, filled, list-at, list-over, list-not, list-but, spell-array, flat-laid, says-array, list-long}
-use Rattle.commitbytes.specs.Laid.{lsnsAt, lsnLaid, lsnSays, lsnsLaid, lsnsForm, IsLaid}
+use Rattle.core.specs.Says.{lsnLaid}
+use Rattle.commitbytes.specs.Laid.{lsnsAt, lsnSays, lsnsLaid, lsnsForm, IsLaid}
 
 -- ---- the LSNs at a place
 
-pub length-lsns : (n at : ℕ) (s : List ℕ) → length (lsnsAt n at s) ≡ n
+length-lsns : (n at : ℕ) (s : List ℕ) → length (lsnsAt n at s) ≡ n
 unfolding lsnsAt
 length-lsns n at s = length-read be 8 n at s
 

@@ -1,10 +1,10 @@
 -- The parts of a commit in bytes. A key asks for a reserved byte 0 and for an LSN that is not 0, which is a complement that is not the highest number; what may be
 -- missing asks for zeros behind a flag 0, and for the form of the value behind a flag 1. Assumes nothing.
-use Prim.Native.Nat.{ℕ, suc, _+_, _-_, _*_, _^_, _≤_, _<_}
-use mathlib.Core.Path.{_≡_, refl, sym, ap, ap₂, _∙_}
+use Prim.Native.Nat.{ℕ, _+_, _-_, _^_, _≤_, _<_}
+use mathlib.Core.Path.{_≡_, refl, sym, ap, _∙_}
 use mathlib.Core.Bool.{Bool, true, false, cond, _&&_, and-true}
-use mathlib.Core.Option.{Option, none, some}
-use mathlib.Core.List.{List, [], _∷_, _++_, append-assoc}
+use mathlib.Core.Option.{none, some}
+use mathlib.Core.List.{List, _∷_, _++_}
 use native.Mathlib.Omega.{arith}
 use borrow.Author.Tests.{eq-eqb, ne-eqb, lt-ltb, le-ltb, ltb-true, ltb-false, le-leb}
 use lib.Dec.{eqb, leb, ltb}
@@ -12,16 +12,14 @@ use mir.Val.{Val}
 use denote.Laws.{Is}
 use denote.Struct.Declared.{row}
 use lib.ListN.{length, replicate, length-take}
-use Rattle.octets.specs.Bytes.{be, bytesOf, down, part, put, AreBytes, allZero}
+use Rattle.octets.specs.Bytes.{be, bytesOf, part, put, AreBytes, allZero}
 use Rattle.octets.specs.Flat.{flat}
-use Rattle.octets.proofs.Numbers as N
 use Rattle.octets.proofs.Places as P
 use Rattle.core.specs.Numbers.{counts, lastLsn}
 use Rattle.core.specs.Hashes.{zeroHash}
 use Rattle.pageset.specs.Sets.{shown, normal, windowForms, rising, normalForm, holds, maskAt, bit, blank}
 use Rattle.rules.specs.Lists.{given}
-use Rattle.rules.specs.Records as R
-use Rattle.rules.specs.Forms.{idForm, lsnForm, hashForm, segmentForm}
+use Rattle.rules.specs.Forms.{idForm, lsnForm, hashForm}
 use Rattle.rules.proofs.TableLaws.{cases}
 use Rattle.commit.specs.declared.Presence.{Presence}
 use Rattle.commit.specs.declared.Presence.the-variants.{Missing, Given}
@@ -29,14 +27,16 @@ use Rattle.commit.specs.declared.SegmentIdx.{SegmentIdx}
 use Rattle.commit.proofs.SegmentIdx.{the-type}
 use Rattle.commit.specs.Builders.{zeroSegment}
 use Rattle.commit.specs.Says.{givenSays, segmentSays}
-use Rattle.layout.specs.Codecs.{Codec, number, complement, raw, reserved, flagged, optional, pair, spelled, inForm}
+use Rattle.layout.specs.Codecs.{Codec, complement, optional, pair, inForm}
 use Rattle.layout.specs.Values.{idBytes, windowBytes, setBytes, frameBytes, framesBytes, segmentBytes}
 use Rattle.layout.specs.Records.{logLsnBytes, hashBytes}
-use Rattle.layout.proofs.SpellLaws.{Steady, raw-steady, complement-steady, complement-spelled}
+use Rattle.layout.proofs.SpellLaws.{raw-steady, complement-spelled}
 use Rattle.layout.proofs.PlaceLaws.{reserved-at, optional-at, raw-at, pair-at, pair-read, reserved-read, optional-read}
+pub use Rattle.layout.proofs.PlaceLaws.{key-long}
 use Rattle.segmentbytes.specs.Laid.{segmentLaid}
 use Rattle.setbytes.proofs.WindowLaws.{set-long}
-use Rattle.segmentbytes.proofs.TypeLaws.{sid-16, windows-32, frames-16}
+use Rattle.commit.proofs.RecordLaws.{long-of}
+use Rattle.segmentbytes.proofs.TypeLaws.{sid-16, windows-32}
 use Rattle.segmentbytes.proofs.FrameLaws.{frames-long}
 use Rattle.segmentbytes.proofs.Trips.{new-laid}
 use Rattle.commitbytes.specs.Laid.{keyForm, presence, presenceOf, flagOf, hashLaid, givenSegment}
@@ -81,19 +81,6 @@ module _ (s : List ℕ) (at : ℕ) where
     pub key-lsn : be (part at 1 s) ≡ 0 → ltb (be (part (at + 17) 8 s)) 18446744073709551615 ≡ inForm logLsnBytes keyForm (part at 25 s)
     key-lsn e = sym (key-is ∙ ap (λ (t : Bool). t && ltb (be (part (at + 17) 8 s)) 18446744073709551615) (eq-eqb (be (part at 1 s)) 0 e))
 
-pub key-long : (log : List ℕ) (lsn : ℕ) → length log ≡ 16 → length (logLsnBytes .spell (log, lsn)) ≡ 25
-unfolding logLsnBytes
-key-long log lsn e = ap suc (P.length-two 16 8 log (down 8 lsn) e (N.length-down 8 lsn))
-
--- its three stores
-pub key-stored : (at lsn : ℕ) (log s t u v : List ℕ) → length log ≡ 16 → at + 25 ≤ length s → t ≡ put at (bytesOf 1 0) s → u ≡ put (at + 1) log t
-    → v ≡ put (at + 17) (bytesOf 8 (18446744073709551615 - lsn)) u → v ≡ put at (logLsnBytes .spell (log, lsn)) s
-unfolding logLsnBytes down bytesOf
-key-stored at lsn log s t u v i h p q r =
-    let e : at + 17 ≡ at + (1 + 16) = omega arith in
-    let c = bytesOf 8 (18446744073709551615 - lsn) in
-    P.then-stored (P.then-stored (P.stored at 1 (bytesOf 1 0) s refl p) 16 log i (omega arith) q) 8 c (N.length-bytesOf 8 (18446744073709551615 - lsn)) (omega arith) (r ∙ ap (λ (n : ℕ). put n c u) e) .bytes
-
 -- ---- what may be missing
 
 module _ {A : Type 0} (c : Codec A) (s : List ℕ) (at : ℕ) where
@@ -112,9 +99,6 @@ module _ {A : Type 0} (c : Codec A) (s : List ℕ) (at : ℕ) where
   read-some n = optional-read s at c ∙ ap (λ (b : Bool). cond b none (some (c .read (part (at + 1) (c .size) s)))) (ne-eqb (be (part at 1 s)) 0 n)
 
   module _ (ab : AreBytes s) (f : A → Bool) (h : at + (1 + c .size) ≤ length s) where
-    abbrev form : Bool
-    form = inForm (optional c) (given f) (part at (1 + c .size) s)
-
     pub none-form : be (part at 1 s) ≡ 0 → allZero (part (at + 1) (c .size) s) ≡ inForm (optional c) (given f) (part at (1 + c .size) s)
     none-form e =
         sym (optional-at s ab at c f h ∙ ap (λ (b : Bool). cond b (allZero (part (at + 1) (c .size) s)) (eqb (be (part at 1 s)) 1 && inForm c f (part (at + 1) (c .size) s))) (eq-eqb (be (part at 1 s)) 0 e))
@@ -167,7 +151,7 @@ unfolding segmentBytes
 segment-long x vs g =
     let few : length (shown (x .pages)) ≤ 32 = omega (arith, length-take (x .pages .len) (x .pages .windows), windows-32 x vs g) in
     P.length-two 16 578 (x .sid) (setBytes .spell (shown (x .pages)) ++ framesBytes .spell (segmentSays x .frames)) (sid-16 x vs g)
-    (P.length-two 385 193 (setBytes .spell (shown (x .pages))) (framesBytes .spell (segmentSays x .frames)) (set-long (shown (x .pages)) few) (frames-long (x .len) (x .frames) (frames-16 x vs g)))
+    (P.length-two 385 193 (setBytes .spell (shown (x .pages))) (framesBytes .spell (segmentSays x .frames)) (set-long (shown (x .pages)) few) (frames-long (x .len) (x .frames) (long-of x vs g)))
 
 -- a hash that is there: its flag is 1
 pub hash-some : (s : List ℕ) (at : ℕ) → AreBytes s → at + 33 ≤ length s → (be (part at 1 s) ≡ 0 → ⊥) → eqb (be (part at 1 s)) 1 ≡ inForm (optional hashBytes) (given hashForm) (part at 33 s)

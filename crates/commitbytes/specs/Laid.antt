@@ -10,6 +10,7 @@ use Rattle.octets.specs.Bytes.{be}
 use Rattle.table.specs.Table.{runs}
 use Rattle.core.specs.declared.lsn.Lsn.{Lsn}
 use Rattle.core.specs.Hashes.{zeroHash}
+use Rattle.core.specs.Says.{lsnLaid}
 use Rattle.rules.specs.Lists.{all}
 use Rattle.rules.specs.Records as R
 use Rattle.rules.specs.Forms.{idForm, lsnForm}
@@ -26,11 +27,7 @@ use Rattle.segmentbytes.specs.Laid.{segmentLaid}
 unfoldable pub lsnsAt : ℕ → ℕ → List ℕ → List ℕ
 lsnsAt n at s = map be (runs n 8 at s)
 
--- an LSN
-abbrev pub lsnLaid : ℕ → Lsn
-lsnLaid n = record { 0 = n }
-
--- and the number of one
+-- the number of an LSN
 abbrev pub lsnSays : Lsn → ℕ
 lsnSays n = n .0
 

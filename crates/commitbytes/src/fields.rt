@@ -23,7 +23,8 @@ ghost use Rattle.rules.specs.Push.{isHash};
 ghost use Rattle.rules.specs.Save.{hasSid};
 ghost use Rattle.layout.specs.Codecs.{Codec};
 ghost use Rattle.layout.specs.Records.{commitBytes};
-ghost use Rattle.commitbytes.specs.Laid.{lsnLaid, presence, hashLaid, givenSegment};
+ghost use Rattle.core.specs.Says.{lsnLaid};
+ghost use Rattle.commitbytes.specs.Laid.{presence, hashLaid, givenSegment};
 
 // Its log.
 pub fn commit_log(s: &[u8], at: usize) -> LogId

@@ -86,7 +86,7 @@ pub fn commit_write(s: &mut [u8], at: usize, x: Commit)
     let has_segment = x.has_segment;
     let segment = x.segment;
     let checkpoints = x.checkpoints;
-    parts::key_write(s, at, log, lsn);
+    layout::key_write(s, at, log, lsn.0);
     store32(s, at + 25, x.count.0);
     parts::hash_write(s, at + 29, has_hash, hash);
     parts::given_write(s, at + 62, has_segment, segment);

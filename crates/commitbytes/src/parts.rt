@@ -2,15 +2,11 @@
 use commit::Presence;
 use commit::SegmentIdx;
 use core::commit_hash::CommitHash;
-use core::id::LogId;
-use core::lsn::Lsn;
 use octets::all_zero;
 use octets::load8;
 use octets::load64;
 use octets::store_hash;
-use octets::store_id;
 use octets::store8;
-use octets::store64;
 use segmentbytes::segment_form;
 use segmentbytes::segment_write;
 ghost use mathlib.Core.Path.{_≡_};
@@ -34,16 +30,6 @@ pub fn key_form(s: &[u8], at: usize) -> bool
         return false;
     }
     load64(s, at + 17) < 18446744073709551615
-}
-
-// A log and an LSN over the 25 bytes at a place: the LSN is stored as its complement.
-pub fn key_write(s: &mut [u8], at: usize, log: LogId, lsn: Lsn)
-    requires { ⌜ at + 25 ≤ length (now s) ⌝ }
-    ensures { λ _. ⌜ now (s .exit) ≡ put at (logLsnBytes .spell (log, lsn .0)) (now (s .entry)) ⌝ }
-{
-    store8(s, at, 0);
-    store_id(s, at + 1, log);
-    store64(s, at + 17, 18446744073709551615 - lsn.0);
 }
 
 // What the flag at a place says.

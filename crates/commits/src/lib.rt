@@ -1,4 +1,4 @@
-// The table of commits in lent bytes: its check, its keys, where a commit stands, and single fields of a stored commit, read where they stand.
+// The table of commits in lent bytes: its check, where a commit stands, and single fields of a stored commit, read where they stand.
 use commit::Presence;
 use commitbytes::commit_form;
 use commitbytes::fields;
@@ -6,12 +6,12 @@ use core::id::LogId;
 use core::id::SegmentId;
 use layout::COMMIT;
 use layout::COMMIT_KEY;
+use layout::log_key;
 ghost use mathlib.Core.Path.{_≡_};
 ghost use mathlib.Core.Bool.{true};
 ghost use Prim.Native.Nat.{_+_, _*_, _<_, _≤_};
 ghost use lib.ListN.{length};
 ghost use Rattle.table.specs.Table.{countOf};
-ghost use Rattle.layout.specs.Records.{logLsnBytes};
 ghost use Rattle.layout.specs.Tables.{commitsIn, commitsOk};
 ghost use Rattle.rules.specs.Lists.{isSome};
 ghost use Rattle.rules.specs.Tables.{sameId, getCommit, latest};
@@ -41,16 +41,6 @@ pub fn commits_formed(t: &[u8]) -> bool
         i += 1;
     }
     true
-}
-
-// The bytes of a commit's key: a reserved byte, the log, and the LSN complemented.
-pub fn commit_key(log: LogId, lsn: u64) -> [u8; 25]
-    ensures { λ r. ⌜ r ≡ logLsnBytes .spell (log, lsn) ⌝ }
-{
-    let mut key = [0u8; 25];
-    octets::store_id(&mut key, 1, log);
-    octets::store64(&mut key, 17, 18446744073709551615 - lsn);
-    key
 }
 
 // Where record i begins.
@@ -123,7 +113,7 @@ pub fn find_commit(t: &[u8], log: LogId, lsn: u64) -> Place
     requires { ⌜ commitsOk (now t) ≡ true ⌝ }
     ensures { λ r. ⌜ PlaceOf (now (t .entry)) (getCommit (commitsIn (now (t .entry))) log lsn) r ⌝ }
 {
-    let key = commit_key(log, lsn);
+    let key = log_key(log, lsn);
     match table::find(t, COMMIT, COMMIT_KEY, &key) {
         table::Spot::At(i) => Place::At(i),
         table::Spot::Gap(_) => Place::Missing,
@@ -135,7 +125,7 @@ pub fn latest(t: &[u8], log: LogId) -> Place
     requires { ⌜ commitsOk (now t) ≡ true ⌝ }
     ensures { λ r. ⌜ PlaceOf (now (t .entry)) (latest (commitsIn (now (t .entry))) log) r ⌝ }
 {
-    let key = commit_key(log, 18446744073709551615);
+    let key = log_key(log, 18446744073709551615);
     let i = table::from_key(t, COMMIT, COMMIT_KEY, &key);
     if i == table::count(t) {
         return Place::Missing;
@@ -151,7 +141,7 @@ pub fn range_run(t: &[u8], log: LogId, start: u64, end: u64) -> table::Run
     requires { ⌜ commitsOk (now t) ≡ true ⌝ }
     ensures { λ r. ⌜ RunOfRange (now (t .entry)) (record { log = log; start = start; end = end }) (r .from) (r .to) ⌝ }
 {
-    let first = commit_key(log, end);
-    let last = commit_key(log, start);
+    let first = log_key(log, end);
+    let last = log_key(log, start);
     table::between(t, COMMIT, COMMIT_KEY, &first, &last)
 }

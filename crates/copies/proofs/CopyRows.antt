@@ -17,12 +17,11 @@ use Rattle.layout.specs.Values.{segmentBytes}
 use Rattle.layout.specs.Records.{logLsnBytes, hashBytes, commitBytes}
 use Rattle.layout.specs.Tables.{commitsOk}
 use Rattle.layout.proofs.HoldLaws.{held-form}
-use Rattle.layout.proofs.PlaceLaws.{id-form}
+use Rattle.layout.proofs.PlaceLaws.{id-form, key-long}
 use Rattle.rows.proofs.Rows.{long-is}
 use Rattle.rows.proofs.Checks.{row-form, row-spelled}
 use Rattle.rows.proofs.Tables.{commits, commit-ok}
 use Rattle.commits.specs.Places.{commitAt}
-use Rattle.commitbytes.proofs.PartLaws.{key-long}
 use Rattle.writecalls.specs.Written.{IsCommit, commitIn}
 use Rattle.copies.specs.Copied.{renumber}
 

@@ -29,7 +29,7 @@ use Rattle.layout.specs.Codecs.{listed, number}
 use Rattle.layout.specs.Records.{logLsnBytes}
 use Rattle.layout.specs.Tables.{commitsIn, commitsOk, checkpointsIn, checkpointsOk, indexIn, indexOk}
 use Rattle.rows.proofs.Tables.{commits, checkpoints, index, checkpoint-key}
-use Rattle.rows.proofs.Stores.{lacks-is}
+use Rattle.rows.proofs.News.{lacks-is, news-spelled, news-fit}
 use Rattle.setbytes.specs.Laid.{setLaid}
 use Rattle.commits.specs.Places.{commitAt}
 use Rattle.commitbytes.specs.Laid.{lsnsAt}
@@ -43,7 +43,7 @@ use Rattle.paths.specs.declared.Left.{Left}
 use Rattle.paths.specs.declared.Met.{Met}
 use Rattle.copies.specs.Copied.{renumber, lists}
 use Rattle.copies.proofs.Copying.{endCommits, endCheckpoints, endIndex, fit-parts}
-use Rattle.copies.proofs.RoomLaws.{news-spelled, room-is, all-new, entries-step, entries-few, checkpoints-step}
+use Rattle.copies.proofs.RoomLaws.{all-new, entries-step, entries-few, checkpoints-step}
 
 -- ---- the LSNs at a place
 
@@ -170,13 +170,13 @@ module _ (cs ks es : List ℕ) (good : (commitsOk cs ≡ true) × (checkpointsOk
   fit = logsFit (writeAll (logsIn cs ks es) (renumbered log path))
 
   pub commits-room : (n : ℕ) → n ≡ length path → latest (commitsIn cs) log ≡ none → (r : Bool) → r ≡ holds 722 (countOf cs + n) cs → r ≡ fits (endCommits cs ks es left log)
-  commits-room n en e r er = room-is commits cs (good .0) (renumbered log path) r n (en ∙ sym (all-new log (commitsIn cs) e path)) er
+  commits-room n en e r er = news-fit commits cs (good .0) (renumbered log path) r n (en ∙ sym (all-new log (commitsIn cs) e path)) er
 
   pub index-room : (n : ℕ) → n ≡ news entryKey logPageLsn (each entriesOf (renumbered log path)) (indexIn es .rows) → (r : Bool) → r ≡ holds 29 (countOf es + n) es → r ≡ fits (endIndex cs ks es left log)
-  index-room n en r er = room-is index es (good .2) (each entriesOf (renumbered log path)) r n en er
+  index-room n en r er = news-fit index es (good .2) (each entriesOf (renumbered log path)) r n en er
 
   pub checkpoints-room : (n : ℕ) → n ≡ news checkpointKey logLsn (each checkpointsOf (renumbered log path)) (checkpointsIn ks .rows) → (r : Bool) → r ≡ holds 25 (countOf ks + n) ks → r ≡ fits (endCheckpoints cs ks es left log)
-  checkpoints-room n en r er = room-is checkpoints ks (good .1) (each checkpointsOf (renumbered log path)) r n en er
+  checkpoints-room n en r er = news-fit checkpoints ks (good .1) (each checkpointsOf (renumbered log path)) r n en er
 
   both-false : (a b : Bool) → false ≡ (a && b && false)
   both-false true true = refl

@@ -1,4 +1,4 @@
--- What copies add to each table. A key counts as new where it is named last and not held (`news`), in bytes as in the rules. Copies of a log without commits are all new, since their LSNs
+-- What copies add to each table. A key counts as new where it is named last and not held (`news`). Copies of a log without commits are all new, since their LSNs
 -- differ; so do the keys of different copies' index entries, whose new ones are counted copy by copy. Checkpoints of different copies may meet: each is counted against the rest of its
 -- list, the commits after its own and the table.
 use Prim.Native.Nat.{ℕ, suc, _+_, _*_, _%_, _≤_, _<_, compare, Ordering, Ordering·lt, Ordering·eq, Ordering·gt}
@@ -7,34 +7,25 @@ use mathlib.Core.List.{List, [], _∷_, _++_, map, append-assoc}
 use mathlib.Core.Option.{none}
 use mathlib.Core.Bool.{Bool, true, false, cond, _||_}
 use native.Mathlib.Omega.{arith}
-use lib.Dec.{isEq, eqb, leb}
+use lib.Dec.{isEq, eqb}
 use lib.ListN.{length, length-map, length-append}
 use Rattle.core.specs.Orders.{next, bytes, logLsn, logPageLsn}
 use Rattle.core.proofs.OrderLaws.{logLsn-lawful, logPageLsn-lawful}
-use Rattle.octets.specs.Order.{ordering}
-use Rattle.octets.specs.declared.Order.{Order}
-use Rattle.octets.specs.declared.Order.the-variants.{Less, Equal, Greater}
 use Rattle.pageset.specs.Sets.{bit}
 use Rattle.rules.specs.Lists.{any, all, those, first}
 use Rattle.rules.specs.Records.{Id, Pages, Commit, Checkpoint, Entry, LogLsn, LogPageLsn, commitKey, checkpointKey, entryKey}
 use Rattle.rules.specs.Pages.{numbers, pagesIn}
 use Rattle.rules.specs.Forms.{commitForm}
-use Rattle.rules.specs.Tables.{Table, capacity, fits, latest, sameId, storeAll}
+use Rattle.rules.specs.Tables.{Table, latest, sameId}
 use Rattle.rules.specs.Write.{pagesOf, checkpointsOf, entriesOf}
-use Rattle.rules.specs.Room.{held, lacks, news, hasRoom, each}
+use Rattle.rules.specs.Room.{held, lacks, news, each}
 use Rattle.rules.specs.Copies.{renumbered}
-use Rattle.rules.proofs.TableLaws.{cases, clash, missing, eq-of, and-fst, and-snd, and-both, all-append, map-append, any-map, any-and, length-those, eqb-turn}
+use Rattle.rules.proofs.TableLaws.{cases, clash, missing, eq-of, and-fst, and-snd, any-map, any-and, length-those, eqb-turn}
 use Rattle.rules.proofs.Facts.{id-same}
-use Rattle.rules.proofs.Rooms.{held-nil, held-append, fits-storeAll}
+use Rattle.rules.proofs.Rooms.{held-nil, held-append}
 use Rattle.rules.proofs.PageLaws.{length-numbers}
 use Rattle.rules.proofs.Write.{set-form}
-use Rattle.table.specs.Records.{cmp, lookBy, look}
-use Rattle.table.specs.Table.{countOf, recs, holds}
-use Rattle.batch.specs.Batch as Many
-use Rattle.layout.specs.Codecs.{Codec}
-use Rattle.layout.specs.Tables.{formedIn, tableIn}
 use Rattle.setbytes.proofs.LaidLaws.{few}
-use Rattle.rows.proofs.Rows.{Layout, holds-is, length-rows, formed-up, formed-forms, rows-are}
 use Rattle.indexing.specs.Rows.{checkpoint}
 use Rattle.copies.specs.Copied.{renumber, lists}
 
@@ -45,19 +36,19 @@ module _ {R K : Type 0} (key : R → K) (order : K → K → Ordering) where
   lacks-le k l = cases (held key order k l) (λ q. rw q (omega arith)) (λ q. rw q (omega arith))
 
   -- no more are new than there are
-  pub news-le : (rs l : List R) → news key order rs l ≤ length rs
+  news-le : (rs l : List R) → news key order rs l ≤ length rs
   unfolding news
   news-le [] l = omega arith
   news-le (r ∷ rs) l = omega (arith, lacks-le (key r) (rs ++ l), news-le rs l)
 
   -- of two runs: those of the second, and those of the first that the second does not name
-  pub news-append : (a b l : List R) → news key order (a ++ b) l ≡ news key order a (b ++ l) + news key order b l
+  news-append : (a b l : List R) → news key order (a ++ b) l ≡ news key order a (b ++ l) + news key order b l
   unfolding news
   news-append [] b l = omega arith
   news-append (r ∷ a) b l = omega (arith, news-append a b l, ap (lacks key order (key r)) (append-assoc a b l))
 
   -- records that name none of the keys count for nothing
-  pub news-apart : (a b l : List R) → all (λ r. cond (held key order (key r) b) false true) a ≡ true → news key order a (b ++ l) ≡ news key order a l
+  news-apart : (a b l : List R) → all (λ r. cond (held key order (key r) b) false true) a ≡ true → news key order a (b ++ l) ≡ news key order a l
   unfolding news all
   news-apart [] b l h = refl
   news-apart (r ∷ a) b l h =
@@ -68,43 +59,6 @@ module _ {R K : Type 0} (key : R → K) (order : K → K → Ordering) where
       not-held : (x : Bool) → cond x false true ≡ true → x ≡ false
       not-held true e = sym e
       not-held false e = refl
-
--- in bytes as many are new as in the rules
-module _ {R K : Type 0} {c : Codec R} {s k : ℕ} {form : R → Bool} {key : R → K} {order : K → K → Ordering} (L : Layout c s k form key order) where
-  lacks-step : (r x : R) (l : List R) (m : List (List ℕ)) (o : Order) → Many.lacks k (c .spell r) m ≡ lacks key order (key r) l
-      → Many.gone (lookBy o (c .spell x) (look k (c .spell r) m)) ≡ cond (isEq (ordering o) || held key order (key r) l) 0 1
-  unfolding Many.lacks
-  lacks-step r x l m Less e = e
-  lacks-step r x l m Equal e = refl
-  lacks-step r x l m Greater e = e
-
-  lacks-spelled : (r : R) → form r ≡ true → (l : List R) → all form l ≡ true → Many.lacks k (c .spell r) (map (c .spell) l) ≡ lacks key order (key r) l
-  unfolding Many.lacks held any all
-  lacks-spelled r f [] e = refl
-  lacks-spelled r f (x ∷ l) e =
-      lacks-step r x l (map (c .spell) l) (cmp k (c .spell r) (c .spell x)) (lacks-spelled r f l (and-snd (form x) (all form l) e))
-      ∙ ap (λ (o : Ordering). cond (isEq o || held key order (key r) l) 0 1) (L .ordered r x f (and-fst (form x) (all form l) e))
-
-  news-rows : (rs l : List R) → all form rs ≡ true → all form l ≡ true → Many.news k (map (c .spell) rs) (map (c .spell) l) ≡ news key order rs l
-  unfolding news all
-  news-rows [] l f e = refl
-  news-rows (r ∷ rs) l f e =
-      let fr = and-fst (form r) (all form rs) f in
-      let fs = and-snd (form r) (all form rs) f in
-      ap₂ _+_
-      (ap (Many.lacks k (c .spell r)) (sym (map-append (c .spell) rs l)) ∙ lacks-spelled r fr (rs ++ l) (all-append form rs l ∙ and-both fs e))
-      (news-rows rs l fs e)
-
-  pub news-spelled : (t : List ℕ) → formedIn c k form t ≡ true → (rs : List R) → all form rs ≡ true → Many.news k (map (c .spell) rs) (recs s t) ≡ news key order rs (tableIn c t .rows)
-  news-spelled t good rs f = ap (Many.news k (map (c .spell) rs)) (rows-are L t good) ∙ news-rows rs (tableIn c t .rows) f (formed-forms L t good)
-
-  -- so room for the new ones is room for all
-  pub room-is : (t : List ℕ) → formedIn c k form t ≡ true → (rs : List R) (r : Bool) (n : ℕ) → n ≡ news key order rs (tableIn c t .rows) → r ≡ holds s (countOf t + n) t → r ≡ fits (storeAll key order rs (tableIn c t))
-  unfolding hasRoom
-  room-is t good rs r n en er =
-      er ∙ holds-is L (countOf t + n) t
-      ∙ ap₂ (λ (a b : ℕ). leb (a + b) (capacity (tableIn c t))) (sym (length-rows L t)) en
-      ∙ sym (fits-storeAll key order (L .lawful) rs (tableIn c t) (formed-up L t good))
 
 -- ---- lists
 
@@ -200,7 +154,7 @@ bytes-self log = first-part (bytes log log) (logLsn-lawful .self (log, 0))
 
 module _ (log : Id) (n : ℕ) where
   -- of a log's checkpoints, one at an LSN is there where the LSN is
-  pub held-listed : (ns : List ℕ) → held checkpointKey logLsn (log, n) (map (checkpoint log) ns) ≡ any (eqb n) ns
+  held-listed : (ns : List ℕ) → held checkpointKey logLsn (log, n) (map (checkpoint log) ns) ≡ any (eqb n) ns
   unfolding held
   held-listed ns =
       any-map (λ (k : Checkpoint). isEq (logLsn (log, n) (checkpointKey k))) (checkpoint log) ns
@@ -210,7 +164,7 @@ module _ (log : Id) (n : ℕ) where
       same m = ap (λ (o : Ordering). isEq (next o (compare m n))) (bytes-self log) ∙ eqb-turn m n
 
   -- what later copies name
-  pub held-later : (cs : List Commit) → held checkpointKey logLsn (log, n) (each checkpointsOf (renumbered log cs)) ≡ any (lists n) cs
+  held-later : (cs : List Commit) → held checkpointKey logLsn (log, n) (each checkpointsOf (renumbered log cs)) ≡ any (lists n) cs
   unfolding each any
   held-later [] = held-nil checkpointKey logLsn (log, n)
   held-later (c ∷ cs) =

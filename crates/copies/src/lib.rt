@@ -28,7 +28,7 @@ fn copied_row(commits: &[u8], row: usize, log: LogId, lsn: u64) -> [u8; 722]
 {
     let mut c = [0u8; 722];
     octets::load_all(commits, commits::row(commits, row), &mut c);
-    let key = commits::commit_key(log, lsn);
+    let key = layout::log_key(log, lsn);
     octets::store_all(&mut c, 0, &key);
     c
 }

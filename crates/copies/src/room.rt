@@ -2,7 +2,6 @@
 use crate::copied_row;
 use commitbytes::fields;
 use core::id::LogId;
-use core::lsn::Lsn;
 use layout::CHECKPOINT;
 use layout::COMMIT;
 use layout::ENTRY;
@@ -136,7 +135,7 @@ fn new_checkpoint(
     if listed_later(commits, left, k, lsn) {
         return 0;
     }
-    let key = entries::checkpoint_key(log, Lsn(lsn));
+    let key = layout::log_key(log, lsn);
     batch::lacking(checkpoints, CHECKPOINT, CHECKPOINT, &key)
 }
 

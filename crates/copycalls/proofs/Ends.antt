@@ -1,6 +1,6 @@
 -- The calls: 20, the arguments, then the rule of a path copied: 5, 19, or the new volume and the copies. What is refused is the answer and leaves every byte as found. Where the identifiers
 -- are free the local log has no commit, so its ranges give nothing and the path without them is copied.
-use Prim.Native.Nat.{ℕ, _≤_}
+use Prim.Native.Nat.{ℕ}
 use mathlib.Core.Path.{_≡_, refl, sym, ap, ap₂, _∙_, subst}
 use mathlib.Core.List.{List, [], _∷_, map}
 use mathlib.Core.Option.{Option, none, some}
@@ -10,25 +10,26 @@ use borrow.Author.Tests.{le-leb, eq-eqb, ne-eqb, lt-ltb, le-ltb}
 use lib.Dec.{eqb}
 use lib.ListN.{length, take}
 use Rattle.octets.specs.Bytes.{AreBytes}
-use Rattle.core.specs.Answers.{Answer, refused, done, code, ask, _>>_, _>>=_}
+use Rattle.core.specs.Answers.{Answer, refused, done, code, ask, _>>_}
+use Rattle.core.proofs.AskLaws.{refuses, stops}
 use Rattle.core.specs.Numbers.{counts}
 use Rattle.core.specs.Orders.{bytes}
 use Rattle.rules.specs.Lists.{all, those}
 use Rattle.rules.specs.Records.{Id, Range, Volume, Commit, volumeKey}
-use Rattle.rules.specs.Tables.{Table, fits, store, volumesFormed, getCommit, latest}
-use Rattle.rules.specs.Arguments.{snapshotLsns, snapshotOrder, snapshotForm}
+use Rattle.rules.specs.Tables.{Table, fits, store, volumesFormed, getCommit}
+use Rattle.rules.specs.Arguments.{snapshotForm}
 use Rattle.rules.specs.Write.{Logs, writeAll, logsFormed, logsFit}
 use Rattle.rules.specs.Open.{Ids}
 use Rattle.rules.specs.Walk.{pathCommits}
 use Rattle.rules.specs.Copies.{copyFree, renumbered, newVolume, copied, fromSnapshot, fromCommit, fromLogref}
-use Rattle.rules.proofs.TableLaws.{cases, and-fst, and-snd, and-both}
+use Rattle.rules.proofs.TableLaws.{cases, and-both}
 use Rattle.layout.specs.Records.{volumeBytes, commitBytes, checkpointBytes, entryBytes}
-use Rattle.layout.specs.Tables.{volumesIn, volumesOk, commitsIn, commitsOk, checkpointsIn, checkpointsOk, indexIn, indexOk, laidOver}
-use Rattle.layout.specs.Lent.{lent, after}
+use Rattle.layout.specs.Tables.{volumesIn, volumesOk, commitsIn, commitsOk, checkpointsOk, indexOk, laidOver}
+use Rattle.layout.specs.Lent.{after}
 use Rattle.layout.proofs.LentLaws.{lent-no, lent-yes}
 use Rattle.rows.proofs.Rows.{formed-rules, laid-same}
 use Rattle.rows.proofs.Tables as Layouts
-use Rattle.volume.specs.Snapshots.{rangeSays, snapshotSays, laid}
+use Rattle.volume.specs.Snapshots.{rangeSays, laid}
 use Rattle.volume.specs.declared.snapshot.Snapshot.{Snapshot as CodeSnapshot}
 use Rattle.arguments.specs.declared.Reply.{Reply}
 use Rattle.arguments.specs.Replies.{none-under, given}
@@ -39,7 +40,7 @@ use Rattle.paths.specs.Left.{otherLog}
 use Rattle.paths.proofs.PathLaws.{path-without}
 use Rattle.writecalls.proofs.Formed.{logs-formed}
 use Rattle.copycalls.specs.Making.{Made, upTo, made, copyOk, argumentsIn, snapshotOn, logrefIn, logrefOn, outAfter, Leaves}
-use Rattle.copycalls.proofs.Asks.{all-logs, formed, Passes, passes, local-free}
+use Rattle.copycalls.proofs.Asks.{all-logs, formed, passes, local-free}
 
 -- ---- what is left
 
@@ -76,10 +77,10 @@ module _ (vs cs ks es out : List ℕ) (a : Answer Made) where
 -- ---- a path copied
 
 module _ (vt : Table Volume) (g : Logs) (path : List Range) (x : Ids) where
-  abbrev pub volumesThen : Table Volume
+  abbrev volumesThen : Table Volume
   volumesThen = store volumeKey bytes (newVolume x) vt
 
-  abbrev pub logsThen : Logs
+  abbrev logsThen : Logs
   logsThen = writeAll g (renumbered (x .local) (pathCommits (g .commits) path))
 
   steps : Bool → Bool → Bool → Answer (Volume × Table Volume × Logs)
@@ -128,16 +129,12 @@ module _ (vt : Table Volume) (g : Logs) (path : List Range) (x : Ids) where
       go true true true ea eb ec h = record { free = ea; volume = eb; logs = ec; is-made = ap made (is-steps ∙ ap₂ (λ (a b : Bool). steps a b (logsFit logsThen)) ea eb ∙ ap (steps true true) ec) }
 
   -- and one that does not
-  pub refuses : (n : ℕ) → n ≡ code (copied vt g path x) → (n ≡ 0 → ⊥) → made (copied vt g path x) ≡ refused n
+  pub plan-refuses : (n : ℕ) → n ≡ code (copied vt g path x) → (n ≡ 0 → ⊥) → made (copied vt g path x) ≡ refused n
   unfolding made
-  refuses n e z = go (copied vt g path x) e
-    where
-      go : (a : Answer (Volume × Table Volume × Logs)) → n ≡ code a → made a ≡ refused n
-      go (refused m) q = ap refused (sym q)
-      go (done r) q = absurd (z q)
+  plan-refuses n e z = ap made (refuses (copied vt g path x) n e z)
 
   -- without the ranges of the local log
-  pub copied-without : copied vt g (those (otherLog (x .local)) path) x ≡ copied vt g path x
+  copied-without : copied vt g (those (otherLog (x .local)) path) x ≡ copied vt g path x
   copied-without =
       cases (copyFree vt (g .commits) x)
       (λ q. ap (λ (l : List Commit). ask (copyFree vt (g .commits) x) 5 >> (ask (fits volumesThen && logsFit (writeAll g (renumbered (x .local) l))) 19 >> done (newVolume x, volumesThen, writeAll g (renumbered (x .local) l)))) (path-without (g .commits) (x .local) (local-free vt (g .commits) x q) path))
@@ -156,13 +153,8 @@ others-only log path = those-pass (otherLog log) path
 -- ---- the calls
 
 module _ (vs cs ks es : List ℕ) (ok : true ≡ copyOk vs cs ks es) where
-  pub all-formed : (volumesFormed (volumesIn vs) && logsFormed (logsIn cs ks es)) ≡ true
+  all-formed : (volumesFormed (volumesIn vs) && logsFormed (logsIn cs ks es)) ≡ true
   all-formed = and-both (formed-rules Layouts.volumes vs (formed vs cs ks es ok .0)) (logs-formed cs ks es (all-logs vs cs ks es ok))
-
--- an argument's number is the answer
-stops : (q : Answer (Unit {0})) (k : Answer Made) (n : ℕ) → n ≡ code q → (n ≡ 0 → ⊥) → (q >> k) ≡ refused n
-stops (refused m) k n e z = ap refused (sym e)
-stops (done t) k n e z = absurd (z e)
 
 module _ (vs cs ks es b : List ℕ) (x : Ids) (n : ℕ) where
   -- 20
@@ -183,10 +175,6 @@ module _ (vs cs ks es b : List ℕ) (x : Ids) (n : ℕ) where
     bad-arguments m e z = in-is ∙ stops (argumentsIn b n) rule m e z
 
     module _ (h : 0 ≡ code (argumentsIn b n)) (s : CodeSnapshot) (says : s ≡ laid (snapshotIn b)) where
-      pub few-ranges : s .len ≤ 8
-      unfolding laid
-      few-ranges = omega (arith, ap (λ (q : CodeSnapshot). q .len) says, in-few b)
-
       form-passes : snapshotForm (snapshotIn b) ≡ true
       unfolding snapshotForm
       form-passes = le-leb (length (snapshotIn b .path)) 8 (in-few b)

@@ -1,6 +1,6 @@
 -- The laws of an order of keys, and that document 01's orders have them. Numbers and bytes have them since the orders of the crate octets do, which
 -- they agree with; a pair has them where its parts do, since the second part counts only where the first parts are equal. Assumes nothing.
-use Prim.Native.Nat.{ℕ, zero, suc, _<_, _≤_, min, compare, Ordering, Ordering·lt, Ordering·eq, Ordering·gt, compare·zero-zero, compare·zero-suc, compare·suc-zero, compare·suc-suc}
+use Prim.Native.Nat.{ℕ, zero, suc, _<_, min, compare, Ordering, Ordering·lt, Ordering·eq, Ordering·gt, compare·zero-zero, compare·zero-suc, compare·suc-zero, compare·suc-suc}
 use mathlib.Core.Path.{_≡_, refl, sym, ap, ap₂, _∙_}
 use mathlib.Core.List.{List, [], _∷_}
 use mathlib.Core.Logic.{_⊎_, inl, inr, ⊎-elim}
@@ -11,8 +11,8 @@ use Rattle.octets.specs.Bytes.{part}
 use Rattle.octets.specs.Order.{order, thenBy, lex, ordering}
 use Rattle.octets.specs.declared.Order.{Order}
 use Rattle.octets.specs.declared.Order.the-variants.{Less, Equal, Greater}
-use Rattle.octets.proofs.Orders.{ordering-order, order-less, order-equal, order-greater, less-order, equal-order, greater-order, lex-self, lex-same, lex-greater-turned, lex-trans}
-use Rattle.octets.proofs.Places.{part-front, part-all}
+use Rattle.octets.proofs.Orders.{ordering-order, order-less, order-equal, less-order, equal-order, greater-order, lex-self, lex-same, lex-greater-turned, lex-trans}
+use Rattle.octets.proofs.Places.{part-front}
 use Rattle.core.specs.Orders.{next, up, down, bytes, both, logLsn, logPageLsn, sidPage}
 
 -- what a table asks of the order of its keys
@@ -79,12 +79,6 @@ module _ {K : Type 0} (f : K → K → Order) (g : K → K → Ordering) (agree 
 pub up-lt : (a b : ℕ) → a < b → up a b ≡ Ordering·lt
 up-lt a b h = tell order up ordering-order a b Less (order-less a b h)
 
-pub up-eq : (a b : ℕ) → a ≡ b → up a b ≡ Ordering·eq
-up-eq a b h = tell order up ordering-order a b Equal (order-equal a b h)
-
-pub up-gt : (a b : ℕ) → b < a → up a b ≡ Ordering·gt
-up-gt a b h = tell order up ordering-order a b Greater (order-greater a b h)
-
 pub lt-up : (a b : ℕ) → up a b ≡ Ordering·lt → a < b
 lt-up a b e = less-order a b (told order up ordering-order a b Less e)
 
@@ -112,7 +106,7 @@ bytes-lawful = lawful lex bytes ordering-lex lex-same lex-self lex-greater-turne
 
 -- ---- down, and by a first field and then a second
 
-pub down-lawful : Lawful down
+down-lawful : Lawful down
 down-lawful = record {
   same = λ a b e. sym (up-lawful .same b a e);
   self = up-lawful .self;
@@ -161,7 +155,7 @@ module _ {A : Type 0} (f : A → A → Ordering) (F : Lawful f) where
       go (inr x) (inl y) = decides {o = f a c} s (rw (F .same a b (x .0)) y)
       go (inr x) (inr y) = ties (equal F (F .same a b (x .0) ∙ F .same b c (y .0))) (step (x .1) (y .1))
 
-pub both-lawful : {A B : Type 0} {f : A → A → Ordering} {g : B → B → Ordering} → Lawful f → Lawful g → Lawful (both f g)
+both-lawful : {A B : Type 0} {f : A → A → Ordering} {g : B → B → Ordering} → Lawful f → Lawful g → Lawful (both f g)
 both-lawful {f} {g} F G = record {
   same = λ a b e. let h = next-eq (f (a .0) (b .0)) (g (a .1) (b .1)) e in λ i. (F .same (a .0) (b .0) (h .0) i, G .same (a .1) (b .1) (h .1) i);
   self = λ a. ties (F .self (a .0)) (G .self (a .1));
@@ -180,13 +174,10 @@ logPageLsn-lawful = both-lawful bytes-lawful (both-lawful up-lawful down-lawful)
 pub sidPage-lawful : Lawful sidPage
 sidPage-lawful = both-lawful bytes-lawful down-lawful
 
--- ---- arrays and their fronts
-
-pub part-whole : (xs : List ℕ) (k : ℕ) → length xs ≡ k → part 0 k xs ≡ xs
-part-whole xs k e = rw (← e) (part-all xs)
+-- ---- byte strings and their fronts
 
 -- as many bytes as both have decide, and then the lengths
-pub bytes-cut : (xs ys : List ℕ) (k : ℕ) → k ≡ min (length xs) (length ys) → next (bytes (take k xs) (take k ys)) (up (length xs) (length ys)) ≡ bytes xs ys
+bytes-cut : (xs ys : List ℕ) (k : ℕ) → k ≡ min (length xs) (length ys) → next (bytes (take k xs) (take k ys)) (up (length xs) (length ys)) ≡ bytes xs ys
 unfolding bytes
 bytes-cut [] [] zero e = compare·zero-zero
 bytes-cut [] (y ∷ ys) zero e = compare·zero-suc (length ys)

@@ -1,9 +1,10 @@
--- What each answer of the code says: document 01's number, or the value under 0; and what each key of the code is.
+-- What each answer of the code says: document 01's number, or the value under 0; what each key of the code is; and an LSN as the code holds it.
 use Prim.Native.Nat.{ℕ}
 use mathlib.Core.List.{List}
 use mathlib.Core.Option.{Option, none, some}
 use lib.ListN.{take}
 use Rattle.core.specs.Answers.{Answer, refused, done}
+use Rattle.core.specs.declared.lsn.Lsn.{Lsn}
 use Rattle.core.specs.declared.lsn.LsnAnswer.{LsnAnswer}
 use Rattle.core.specs.declared.lsn.LsnAnswer.the-variants as LsnAnswer
 use Rattle.core.specs.declared.lsn.MaybeLsnAnswer.{MaybeLsnAnswer}
@@ -16,6 +17,10 @@ use Rattle.core.specs.declared.logref.LogRef.{LogRef}
 use Rattle.core.specs.declared.keys.PageVersion.{PageVersion}
 use Rattle.core.specs.declared.keys.PageKey.{PageKey}
 use Rattle.core.specs.declared.keys.TagName.{TagName}
+
+-- an LSN as the code holds it
+abbrev pub lsnLaid : ℕ → Lsn
+lsnLaid n = record { 0 = n }
 
 abbrev pub lsnSays : LsnAnswer → Answer ℕ
 lsnSays (LsnAnswer.Refused n) = refused n

@@ -1,7 +1,7 @@
 -- The pass over a table: what is left to ask once the record before is known to be in form. A turn asks the form of the next record and that the one before is below it.
 use Prim.Native.Nat.{ℕ, zero, suc, _+_, _-_, _*_, _<_, _≤_}
 use mathlib.Core.Path.{_≡_, refl, sym, ap, ap₂, _∙_}
-use mathlib.Core.List.{List, [], _∷_}
+use mathlib.Core.List.{List, _∷_}
 use mathlib.Core.Bool.{Bool, true, false, not, _&&_}
 use native.Mathlib.Omega.{arith}
 use lib.Dec.{leb}
@@ -29,7 +29,7 @@ module _ (s : ℕ) (f : List ℕ → Bool) (t : List ℕ) where
   later m at = rises s (runs (suc m) s at t) && all f (runs m s (at + s) t)
 
   -- the first record
-  pub from-first : (n : ℕ) → 0 < n → (rises s (runs n s 2 t) && all f (runs n s 2 t)) ≡ (f (part 2 s t) && later (n - 1) 2)
+  from-first : (n : ℕ) → 0 < n → (rises s (runs n s 2 t) && all f (runs n s 2 t)) ≡ (f (part 2 s t) && later (n - 1) 2)
   unfolding later runs all
   from-first zero h = absurd (omega arith)
   from-first (suc n) h =
@@ -56,14 +56,14 @@ module _ (s : ℕ) (f : List ℕ → Bool) (t : List ℕ) where
       turn true q true u = refl
       turn false q true u = refl
 
-  pub later-end : (m at : ℕ) → m ≡ 0 → later m at ≡ true
+  later-end : (m at : ℕ) → m ≡ 0 → later m at ≡ true
   unfolding later runs all
   later-end m at e = rw e
 
 -- ---- the rows of one of the three tables
 
 -- a record has its reserved byte and its identifier at least
-pub size-some : (k : Keyed) → 17 ≤ sizeOf k
+size-some : (k : Keyed) → 17 ≤ sizeOf k
 size-some Checkpoints = omega arith
 size-some Index = omega arith
 size-some Presence = omega arith

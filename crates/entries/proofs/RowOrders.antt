@@ -1,8 +1,8 @@
 -- How two records in form stand: byte by byte is number by number, since their reserved bytes are both 0.
-use Prim.Native.Nat.{ℕ, _+_, _<_, _≤_}
-use mathlib.Core.Path.{_≡_, refl, sym, ap, ap₂, _∙_}
+use Prim.Native.Nat.{ℕ, _+_, _≤_}
+use mathlib.Core.Path.{_≡_, refl, sym, ap, _∙_}
 use mathlib.Core.List.{List}
-use mathlib.Core.Bool.{Bool, true}
+use mathlib.Core.Bool.{true}
 use native.Mathlib.Omega.{arith}
 use lib.Dec.{ltb}
 use lib.ListN.{length}
@@ -10,10 +10,8 @@ use borrow.Author.Tests.{lt-ltb, le-ltb}
 use Rattle.octets.specs.Bytes.{be, part, AreBytes}
 use Rattle.octets.specs.Order.{order, thenBy, lex, isLess}
 use Rattle.octets.specs.declared.Order.{Order}
-use Rattle.octets.specs.declared.Order.the-variants.{Less, Equal, Greater}
 use Rattle.octets.proofs.Places as P
 use Rattle.octets.proofs.Orders as O
-use Rattle.core.proofs.OrderLaws.{part-whole}
 use Rattle.table.specs.Records.{cmp}
 use Rattle.rules.specs.Forms.{checkpointForm, entryForm, presentForm}
 use Rattle.layout.specs.Codecs.{inForm}
@@ -24,9 +22,9 @@ use Rattle.entries.proofs.RowForms.{checkpoint-asked, entry-asked, pres
 
 -- a record in form has the reserved byte 0
 reserved-zero : (k : Keyed) (z : List ℕ) → AreBytes z → length z ≡ sizeOf k → rowForm k z ≡ true → be (part 0 1 z) ≡ 0
-reserved-zero Checkpoints z b l f = byte-is _ _ (be (part 0 1 z)) (ap (inForm checkpointBytes checkpointForm) (sym (part-whole z 25 l)) ∙ checkpoint-asked z 0 b (omega arith)) f
-reserved-zero Index z b l f = byte-is _ _ (be (part 0 1 z)) (ap (inForm entryBytes entryForm) (sym (part-whole z 29 l)) ∙ entry-asked z 0 b (omega arith)) f
-reserved-zero Presence z b l f = byte-is _ _ (be (part 0 1 z)) (ap (inForm presentBytes presentForm) (sym (part-whole z 21 l)) ∙ present-asked z 0 b (omega arith)) f
+reserved-zero Checkpoints z b l f = byte-is _ _ (be (part 0 1 z)) (ap (inForm checkpointBytes checkpointForm) (sym (P.part-whole 25 z l)) ∙ checkpoint-asked z 0 b (omega arith)) f
+reserved-zero Index z b l f = byte-is _ _ (be (part 0 1 z)) (ap (inForm entryBytes entryForm) (sym (P.part-whole 29 z l)) ∙ entry-asked z 0 b (omega arith)) f
+reserved-zero Presence z b l f = byte-is _ _ (be (part 0 1 z)) (ap (inForm presentBytes presentForm) (sym (P.part-whole 21 z l)) ∙ present-asked z 0 b (omega arith)) f
 
 module _ (x y : List ℕ) (bx : AreBytes x) (by : AreBytes y) where
   -- a number at a place of both, and what follows it

@@ -17,7 +17,7 @@ ghost use Rattle.octets.specs.Order.{isLess};
 ghost use Rattle.table.specs.Table.{countOf, capOf};
 ghost use Rattle.rules.specs.Forms.{checkpointForm, entryForm, presentForm};
 ghost use Rattle.layout.specs.Codecs.{inForm};
-ghost use Rattle.layout.specs.Records.{logLsnBytes, logPageLsnBytes, sidPageBytes, checkpointBytes, entryBytes, presentBytes};
+ghost use Rattle.layout.specs.Records.{logPageLsnBytes, sidPageBytes, checkpointBytes, entryBytes, presentBytes};
 ghost use Rattle.layout.specs.Tables.{checkpointsOk, indexOk, presenceOk};
 ghost use Rattle.entries.specs.Keys.{Checkpoints, Index, Presence, rowsOk, rowOf, rowOrder};
 
@@ -297,16 +297,6 @@ pub fn presence_formed(t: &[u8]) -> bool
         return false;
     }
     present_rows(t, table::count(t))
-}
-
-// The key of a log's checkpoint at an LSN.
-pub fn checkpoint_key(log: LogId, lsn: Lsn) -> [u8; 25]
-    ensures { λ r. ⌜ r ≡ logLsnBytes .spell (log, lsn .0) ⌝ }
-{
-    let mut key = [0u8; 25];
-    octets::store_id(&mut key, 1, log);
-    octets::store64(&mut key, 17, 18446744073709551615 - lsn.0);
-    key
 }
 
 // The key of the index entry of a page at an LSN of a log.

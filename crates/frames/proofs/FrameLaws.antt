@@ -14,12 +14,11 @@ use Rattle.core.specs.Numbers.{lastLsn, lastPage}
 use Rattle.pageset.specs.declared.PageSet.{PageSet}
 use Rattle.pageset.specs.Sets.{shown, member, normal}
 use Rattle.pageset.specs.Counts.{lowest, orElse}
-use Rattle.pageset.proofs.FormLaws.{and-left, and-right, clash, normal-fact}
+use Rattle.pageset.proofs.FormLaws.{and-left, and-right, clash, normal-fact, shown-form}
 use Rattle.rules.specs.Records as R
 use Rattle.rules.specs.Pages.{firstPage}
 use Rattle.rules.specs.Forms.{orOne, startPage, lastsFrom, total, framesForm, listsForm}
 use Rattle.rules.proofs.PageCounts.{first-page}
-use Rattle.commit.proofs.SetLaws.{form-of}
 use Rattle.commit.specs.declared.Frame.{Frame}
 use Rattle.commit.specs.declared.SegmentIdx.{SegmentIdx}
 use Rattle.commit.specs.Builders.{zeroFrame}
@@ -132,7 +131,7 @@ lowest-passes f (suc n) p e = either-passes f n p (lowest f n) (f n) refl (lowes
 
 module _ (s : PageSet) (e : normal s ≡ true) where
   firsts : firstPage (shown s) ≡ lowest (member s) (2 ^ 32)
-  firsts = first-page (shown s) (form-of s e)
+  firsts = first-page (shown s) (shown-form s e)
 
   -- at the set's first page, which is not 0
   pub starts-at : (p : ℕ) → some p ≡ lowest (member s) (2 ^ 32) → (0 < p) × (p ≡ startPage (shown s))
@@ -163,4 +162,4 @@ module _ (s : SegmentIdx) where
 
   pub but-domain : normal (s .pages) ≡ true → s .len ≤ 16 → noFrames (drop (s .len) (s .frames)) ≡ true → framesForm (shown (s .pages)) (listed s) ≡ framesOk s
   unfolding framesOk spelled listsForm
-  but-domain e h b = rw (e, le-leb (s .len) 16 h, b, form-of (s .pages) e)
+  but-domain e h b = rw (e, le-leb (s .len) 16 h, b, shown-form (s .pages) e)

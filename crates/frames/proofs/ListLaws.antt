@@ -118,7 +118,7 @@ module _ (s : SegmentIdx) (t : s .len ≤ length (s .frames)) (parts : List Part
   }
 
 -- as many parts as frames
-parts-length : (s : R.Segment) (byte page : ℕ) (fs : List R.Frame) → length (partsFrom s byte page fs) ≡ length fs
+pub parts-length : (s : R.Segment) (byte page : ℕ) (fs : List R.Frame) → length (partsFrom s byte page fs) ≡ length fs
 parts-length s byte page [] = refl
 parts-length s byte page (f ∷ fs) = ap suc (parts-length s (byte + f .size) (f .last + 1) fs)
 

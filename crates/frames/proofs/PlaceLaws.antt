@@ -1,8 +1,8 @@
 -- The frame of a page. A walk that passes the frames whose last page is below p finds the first that holds p, since it starts at most at p; and the set
 -- of a span is the rules' span, since a list of windows in order is known by its pages. Assumes nothing.
-use Prim.Native.Nat.{ℕ, _+_, _-_, _≤_, _<_}
+use Prim.Native.Nat.{ℕ, _+_, _≤_, _<_}
 use mathlib.Core.Path.{_≡_, refl, sym, ap, ap₂, _∙_}
-use mathlib.Core.Logic.{_⊎_, ⊎-elim}
+use mathlib.Core.Logic.{⊎-elim}
 use mathlib.Core.Bool.{Bool, true, false, cond, _&&_}
 use mathlib.Core.Option.{Option, none}
 use mathlib.Core.List.{List, [], _∷_}
@@ -17,8 +17,8 @@ use Rattle.pageset.specs.declared.PageSet.{PageSet}
 use Rattle.pageset.specs.Sets.{holds, rising, shown, member, normalForm, normal}
 use Rattle.pageset.specs.Rules.{within}
 use Rattle.pageset.specs.Says.{IsSet}
-use Rattle.pageset.proofs.FormLaws.{and-fst, and-snd, clash, Rises, rises-fact, Normal, normal-fact}
-use Rattle.pageset.proofs.WindowLaws.{lt-or, known}
+use Rattle.pageset.proofs.FormLaws.{and-fst, and-snd, clash, Rises, rises-fact, Normal, normal-fact, shown-form}
+use Rattle.pageset.proofs.WindowLaws.{lt-or}
 use Rattle.pageset.proofs.EdgeLaws.{no-pages, first-least, first-lowest}
 use Rattle.rules.specs.Records as R
 use Rattle.rules.specs.Lists.{first}
@@ -27,7 +27,7 @@ use Rattle.rules.specs.Forms.{orOne, startPage, total, framesForm, listsForm}
 use Rattle.rules.specs.Frames.{Part, partsFrom, partsOf, partOf, frameOf, withinLent, frameBytes}
 use Rattle.rules.proofs.TableLaws.{cases}
 use Rattle.rules.proofs.PageCounts.{first-page, holds-span, span-normal}
-use Rattle.commit.proofs.SetLaws.{form-of, one-list}
+use Rattle.commit.proofs.SetLaws.{one-list}
 use Rattle.commit.specs.declared.Frame.{Frame}
 use Rattle.commit.specs.declared.SegmentIdx.{SegmentIdx}
 use Rattle.commit.specs.declared.RangeAnswer.{RangeAnswer}
@@ -48,8 +48,8 @@ form-rises ws e = rises-fact 0 ws (search (and-fst, and-snd)) (search (and-fst, 
 -- so the set of a span is the rules' span
 pub span-is : (s r : PageSet) (a b : ℕ) → normal s ≡ true → 0 < a → IsSet (λ p. member s p && within a b p) r → shown r ≡ span a b (shown s)
 span-is s r a b e pos h =
-    one-list (shown r) (span a b (shown s)) (normal-fact r (h .normal) .rising) (form-rises _ (span-normal a b (shown s) (form-of s e)))
-    (λ p. h .pages p ∙ sym (holds-span a b (shown s) p (form-of s e) pos))
+    one-list (shown r) (span a b (shown s)) (normal-fact r (h .normal) .rising) (form-rises _ (span-normal a b (shown s) (shown-form s e)))
+    (λ p. h .pages p ∙ sym (holds-span a b (shown s) p (shown-form s e) pos))
 
 -- ---- frame 1 starts at most at any page of the set
 
@@ -61,7 +61,7 @@ start-least s e p m = ⊎-elim (λ l. some-pages l) (λ l. clash (member s p) m 
 
     some-pages : 0 < s .len → startPage (shown s) ≤ p
     some-pages l =
-        let q = ap orOne (first-page (shown s) (form-of s e) ∙ sym (first-lowest s t l)) in
+        let q = ap orOne (first-page (shown s) (shown-form s e) ∙ sym (first-lowest s t l)) in
         ⊎-elim (λ k. clash (member s p) m (first-least s t l p k)) (λ k. omega (arith, q)) (lt-or p _)
 
 -- ---- the walk
@@ -78,7 +78,7 @@ run-first : (s : SegmentIdx) (p : ℕ) → normal (s .pages) ≡ true → member
 unfolding runAt first
 run-first s p e m byte page [] h l = refl
 run-first s p e m byte page (f ∷ fs) h l =
-    let q = holds-span page (f .last) (shown (s .pages)) p (form-of (s .pages) e) h ∙ ap₂ (λ (a b : Bool). a && (b && leb p (f .last))) m (le-leb page p l) in
+    let q = holds-span page (f .last) (shown (s .pages)) p (shown-form (s .pages) e) h ∙ ap₂ (λ (a b : Bool). a && (b && leb p (f .last))) m (le-leb page p l) in
     cases (leb p (f .last)) (λ k. rw (q, k)) (λ k. rw (q, k) (run-first s p e m (byte + f .size) (f .last + 1) fs (omega arith) (omega (arith, leb-false p (f .last) k))))
 
 pub run-part : (s : SegmentIdx) (p start : ℕ) → normal (s .pages) ≡ true → member (s .pages) p ≡ true → start ≡ startPage (shown (s .pages)) → 0 < start

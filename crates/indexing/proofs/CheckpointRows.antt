@@ -1,6 +1,6 @@
 -- The rows of checkpoints: their bytes; and the loop that stores them one behind the other, whose first i rows are those of the
 -- first i LSNs.
-use Prim.Native.Nat.{ℕ, suc, _+_, _-_, _*_, _≤_, _<_}
+use Prim.Native.Nat.{ℕ, suc, _+_, _*_, _≤_, _<_}
 use mathlib.Core.Path.{_≡_, refl, sym, ap, ap₂, _∙_}
 use mathlib.Core.List.{List, [], _∷_, _++_, map}
 use native.Mathlib.Numerals.{add-one}
@@ -18,7 +18,7 @@ use Rattle.layout.specs.Records.{logLsnBytes, checkpointBytes}
 use Rattle.indexing.specs.Rows.{checkpoint, checkpointRow, listed, checkpointRows}
 
 -- a checkpoint is its key
-pub key-checkpoint : (log : List ℕ) (n : ℕ) → logLsnBytes .spell (log, n) ≡ checkpointRow log n
+key-checkpoint : (log : List ℕ) (n : ℕ) → logLsnBytes .spell (log, n) ≡ checkpointRow log n
 unfolding checkpointBytes
 key-checkpoint log n = refl
 
@@ -27,7 +27,7 @@ unfolding checkpointBytes logLsnBytes
 checkpoint-row log n = refl
 
 module _ (log : List ℕ) (h : length log ≡ 16) where
-  pub checkpoint-long : (n : ℕ) → length (checkpointRow log n) ≡ 25
+  checkpoint-long : (n : ℕ) → length (checkpointRow log n) ≡ 25
   checkpoint-long n = ap length (checkpoint-row log n) ∙ ap suc (P.length-two 16 8 log (down 8 n) h (N.length-down 8 n)) ∙ omega arith
 
 -- ---- the loop that stores them

@@ -1,5 +1,5 @@
 -- The rows of index entries: their bytes, and what `with_page` makes of them; and that the rows of rising pages rise, since all else in them is the same.
-use Prim.Native.Nat.{ℕ, suc, _+_, _-_, _^_, _<_}
+use Prim.Native.Nat.{ℕ, suc, _+_, _^_, _<_}
 use mathlib.Core.Path.{_≡_, refl, sym, ap, ap₂, _∙_}
 use mathlib.Core.Bool.{true}
 use mathlib.Core.List.{List, [], _∷_, _++_, map, append-assoc}
@@ -58,7 +58,7 @@ module _ (log : List ℕ) (h : length log ≡ 16) (lsn : ℕ) where
   -- ---- the order of rows
 
   whole : (p : ℕ) → part 0 29 (entryRow log lsn p) ≡ (0 ∷ log) ++ (bytesOf 4 p ++ down 8 lsn)
-  whole p = ap (λ (n : ℕ). part 0 n (entryRow log lsn p)) (sym (row-long log h lsn p)) ∙ P.part-all (entryRow log lsn p) ∙ entry-row log lsn p
+  whole p = P.part-whole 29 (entryRow log lsn p) (row-long log h lsn p) ∙ entry-row log lsn p
 
   row-less : (p q : ℕ) → p < q → q < 2 ^ 32 → cmp 29 (entryRow log lsn p) (entryRow log lsn q) ≡ Less
   unfolding thenBy

@@ -88,7 +88,8 @@ fn checkpoint_rows(log: LogId, lsns: [Lsn; 8], n: usize) -> [u8; 200]
     let mut rows = [0u8; 200];
     let mut i: usize = 0;
     while i < n {
-        let k = entries::checkpoint_key(log, lsns[i]);
+        let lsn = lsns[i];
+        let k = layout::log_key(log, lsn.0);
         octets::store_all(&mut rows, i * CHECKPOINT, &k);
         i += 1;
     }

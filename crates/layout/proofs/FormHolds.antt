@@ -54,7 +54,7 @@ given-held c form (some y) h g = H.there-holds c y (h y g)
 
 -- ---- sets and segments
 
-pub window-held : (w : Window) → w .index < 256 ^ 4 → w .mask < 256 ^ 8 → Holds windowBytes w
+window-held : (w : Window) → w .index < 256 ^ 4 → w .mask < 256 ^ 8 → Holds windowBytes w
 unfolding windowBytes
 window-held w i m = H.viewed-holds (pair (number 4) (number 8)) windowOf windowParts w refl (H.pair-holds (number 4) (number 8) (w .index) (w .mask) (H.number-holds 4 (w .index) i) (H.number-holds 8 (w .mask) m))
 
@@ -74,7 +74,7 @@ set-held ws h =
     let ab = and-fst (leb (length ws) 32 && rising 0 ws) (windowForms ws) abc in
     H.listed-holds windowBytes 32 ws (leb-true (length ws) 32 (and-fst (leb (length ws) 32) (rising 0 ws) ab)) (omega arith) (windows-held ws (and-snd (leb (length ws) 32 && rising 0 ws) (windowForms ws) abc))
 
-pub frame-held : (f : Frame) → f .size < 256 ^ 8 → f .last < 256 ^ 4 → Holds frameBytes f
+frame-held : (f : Frame) → f .size < 256 ^ 8 → f .last < 256 ^ 4 → Holds frameBytes f
 unfolding frameBytes
 frame-held f s l = H.viewed-holds (pair (number 8) (number 4)) frameOf frameParts f refl (H.pair-holds (number 8) (number 4) (f .size) (f .last) (H.number-holds 8 (f .size) s) (H.number-holds 4 (f .last) l))
 
@@ -86,7 +86,7 @@ frames-each p (f ∷ fs) h t =
     let l = leb-true (f .last) lastPage (and-snd (leb p (f .last)) (leb (f .last) lastPage) a) in
     (frame-held f (omega arith) (omega arith), frames-each (f .last + 1) fs (and-snd (leb p (f .last) && leb (f .last) lastPage) (Forms.lastsFrom (f .last + 1) fs) h) (omega arith))
 
-pub frames-held : (s : Pages) (fs : List Frame) → Forms.framesForm s fs ≡ true → Holds framesBytes fs
+frames-held : (s : Pages) (fs : List Frame) → Forms.framesForm s fs ≡ true → Holds framesBytes fs
 unfolding framesBytes Forms.framesForm lastLsn
 frames-held s fs h =
     let p = Forms.startPage s in
@@ -139,14 +139,14 @@ unfolding logLsnBytes
 log-lsn-held log lsn i h =
     H.reserved-holds (pair idBytes (complement 8)) (log, lsn) (H.pair-holds idBytes (complement 8) log lsn (bytes-held 16 log i) (H.complement-holds 8 lsn h))
 
-pub log-page-lsn-held : (log : Id) (page lsn : ℕ) → Forms.idForm log ≡ true → page < 256 ^ 4 → lsn < 256 ^ 8 → Holds logPageLsnBytes (log, (page, lsn))
+log-page-lsn-held : (log : Id) (page lsn : ℕ) → Forms.idForm log ≡ true → page < 256 ^ 4 → lsn < 256 ^ 8 → Holds logPageLsnBytes (log, (page, lsn))
 unfolding logPageLsnBytes
 log-page-lsn-held log page lsn i p h =
     H.reserved-holds (pair idBytes (pair (number 4) (complement 8))) (log, (page, lsn))
     (H.pair-holds idBytes (pair (number 4) (complement 8)) log (page, lsn) (bytes-held 16 log i)
     (H.pair-holds (number 4) (complement 8) page lsn (H.number-holds 4 page p) (H.complement-holds 8 lsn h)))
 
-pub sid-page-held : (sid : Id) (page : ℕ) → Forms.idForm sid ≡ true → page < 256 ^ 4 → Holds sidPageBytes (sid, page)
+sid-page-held : (sid : Id) (page : ℕ) → Forms.idForm sid ≡ true → page < 256 ^ 4 → Holds sidPageBytes (sid, page)
 unfolding sidPageBytes
 sid-page-held sid page i h =
     H.reserved-holds (pair idBytes (complement 4)) (sid, page) (H.pair-holds idBytes (complement 4) sid page (bytes-held 16 sid i) (H.complement-holds 4 page h))
@@ -214,7 +214,7 @@ volume-held v h =
     (given-held syncBytes Forms.syncForm (v .sync) sync-held (and-snd (a && b && c) d abcd))
     (given-held pendingBytes Forms.pendingForm (v .pending) pending-held (and-snd (a && b && c && d) e h))))))
 
-pub name-held : (n : List ℕ) → Forms.nameForm n ≡ true → Holds (reserved (padded 32)) n
+name-held : (n : List ℕ) → Forms.nameForm n ≡ true → Holds (reserved (padded 32)) n
 unfolding Forms.nameForm Forms.nameLength
 name-held n h =
     let l = and-fst (leb 1 (length n) && leb (length n) 32) (all (λ x. ltb x 256) n) h in

@@ -2,7 +2,7 @@
 use Prim.Native.Nat.{ℕ, zero, suc, _+_, _-_, _*_, _^_, _<_, _≤_, min}
 use mathlib.Core.Path.{_≡_, refl, sym, ap, ap₂, _∙_, subst}
 use mathlib.Core.List.{List, [], _∷_, _++_, map}
-use mathlib.Core.Option.{Option, none, some}
+use mathlib.Core.Option.{none, some}
 use mathlib.Core.Bool.{Bool, true, cond}
 use native.Mathlib.Omega.{arith}
 use lib.Dec.{eqb}
@@ -21,20 +21,20 @@ use Rattle.layout.specs.Codecs.{Codec, number, complement, raw, padded, 
 -- ---- bytes
 
 -- the parts of two runs, side by side
-pub fronts : (j k : ℕ) (x y : List ℕ) → length x ≡ j → length y ≡ k → (part 0 j (x ++ y) ≡ x) × (part j k (x ++ y) ≡ y)
+fronts : (j k : ℕ) (x y : List ℕ) → length x ≡ j → length y ≡ k → (part 0 j (x ++ y) ≡ x) × (part j k (x ++ y) ≡ y)
 fronts j k x y e f =
     let n : length (x ++ y) ≡ j + k = length-append x y ∙ ap₂ _+_ e f in
-    let whole : part 0 (j + k) (x ++ y) ≡ x ++ y = ap (λ m. part 0 m (x ++ y)) (sym n) ∙ P.part-all (x ++ y) in
+    let whole : part 0 (j + k) (x ++ y) ≡ x ++ y = P.part-whole (j + k) (x ++ y) n in
     let s = P.part-split 0 j k x y (x ++ y) e f whole in
     let z : 0 + j ≡ j = omega arith in
     (s .0, ap (λ m. part m k (x ++ y)) (sym z) ∙ s .1)
 
-pub bytes-append : (x y : List ℕ) → AreBytes x → AreBytes y → AreBytes (x ++ y)
+bytes-append : (x y : List ℕ) → AreBytes x → AreBytes y → AreBytes (x ++ y)
 bytes-append [] y a b i = b i
 bytes-append (z ∷ x) y a b zero = a 0
 bytes-append (z ∷ x) y a b (suc i) = bytes-append x y (λ j. a (suc j)) b i
 
-pub bytes-zeros : (n : ℕ) → AreBytes (replicate n 0)
+bytes-zeros : (n : ℕ) → AreBytes (replicate n 0)
 bytes-zeros zero i = omega arith
 bytes-zeros (suc n) zero = omega arith
 bytes-zeros (suc n) (suc i) = bytes-zeros n i
@@ -122,10 +122,6 @@ module _ {A : Type 0} (c : Codec A) where
         bytes = bytes-append (bytesOf 1 1) (c .spell x) (N.bytes-bytesOf 1 1) (h .bytes);
         back = ap (λ b. cond (eqb (be b) 0) none (some (c .read (part 1 (c .size) (1 ∷ c .spell x))))) (f .0) ∙ ap (λ b. some (c .read b)) (f .1) ∙ ap some (h .back);
       }
-
-  pub optional-holds : (x : Option A) → ((y : A) → x ≡ some y → Holds c y) → Holds (optional c) x
-  optional-holds none h = missing-holds
-  optional-holds (some y) h = there-holds y (h y refl)
 
   pub pair-holds : {B : Type 0} (d : Codec B) (x : A) (y : B) → Holds c x → Holds d y → Holds (pair c d) (x, y)
   pair-holds d x y h k =

@@ -7,9 +7,10 @@ use mathlib.Core.Option.{none, some}
 use mathlib.Core.Bool.{Bool, true, false, cond, _&&_, and-true, and-assoc}
 use native.Mathlib.Omega.{arith}
 use lib.Dec.{eqb, leb, ltb}
-use lib.ListN.{length}
+use lib.ListN.{length, replicate, length-replicate}
 use borrow.Author.Tests.{eq-eqb, ne-eqb, le-leb, lt-ltb}
-use Rattle.octets.specs.Bytes.{be, bytesOf, part, put, AreBytes, allZero}
+use Rattle.octets.specs.Bytes.{be, bytesOf, down, part, put, AreBytes, allZero}
+use Rattle.octets.proofs.Numbers as N
 use Rattle.octets.proofs.Places as P
 use Rattle.core.specs.Numbers.{counts, lastLsn}
 use Rattle.rules.specs.Lists.{all, given}
@@ -17,6 +18,7 @@ use Rattle.rules.specs.Records.{Id}
 use Rattle.rules.specs.Forms.{lsnForm, bytesForm, idForm}
 use Rattle.rules.proofs.TableLaws.{and-both}
 use Rattle.layout.specs.Codecs.{Codec, number, raw, reserved, optional, pair, viewed, spelled, inForm}
+use Rattle.layout.specs.Records.{logLsnBytes}
 use Rattle.layout.proofs.SpellLaws as S
 
 -- ---- bytes
@@ -179,3 +181,22 @@ there-stored c x at s t u h p q = pair-stored at (at + 1) (bytesOf 1 1) (c .spel
 -- a store keeps the length
 pub length-stored : (at : ℕ) (x s t : List ℕ) → at + length x ≤ length s → t ≡ put at x s → length t ≡ length s
 length-stored at x s t h p = ap length p ∙ P.length-put at x s h
+
+-- ---- the key of a log and an LSN
+
+pub key-long : (log : List ℕ) (lsn : ℕ) → length log ≡ 16 → length (logLsnBytes .spell (log, lsn)) ≡ 25
+unfolding logLsnBytes
+key-long log lsn e = ap suc (P.length-two 16 8 log (down 8 lsn) e (N.length-down 8 lsn))
+
+-- its three stores are one store of its bytes
+pub key-stored : (at lsn : ℕ) (log s t u v : List ℕ) → length log ≡ 16 → at + 25 ≤ length s → t ≡ put at (bytesOf 1 0) s → u ≡ put (at + 1) log t
+    → v ≡ put (at + 17) (bytesOf 8 (18446744073709551615 - lsn)) u → v ≡ put at (logLsnBytes .spell (log, lsn)) s
+unfolding logLsnBytes down bytesOf
+key-stored at lsn log s t u v i h p q r =
+    let e : at + 17 ≡ at + (1 + 16) = omega arith in
+    let c = bytesOf 8 (18446744073709551615 - lsn) in
+    P.then-stored (P.then-stored (P.stored at 1 (bytesOf 1 0) s refl p) 16 log i (omega arith) q) 8 c (N.length-bytesOf 8 (18446744073709551615 - lsn)) (omega arith) (r ∙ ap (λ (n : ℕ). put n c u) e) .bytes
+
+-- over zeros they are its bytes and nothing else
+pub key-alone : (lsn : ℕ) (log key : List ℕ) → length log ≡ 16 → key ≡ put 0 (logLsnBytes .spell (log, lsn)) (replicate 25 0) → key ≡ logLsnBytes .spell (log, lsn)
+key-alone lsn log key l e = e ∙ P.put-all (logLsnBytes .spell (log, lsn)) (replicate 25 0) (key-long log lsn l ∙ sym (length-replicate {A = ℕ} 25 0))

@@ -36,9 +36,9 @@ same-refl : (a : List ℕ) → isEqual (lex a a) ≡ true
 same-refl a = ap isEqual (O.lex-self a)
 
 -- two fields, side by side
-pub two-fields : (j k : ℕ) (x y b : List ℕ) → length x ≡ j → length b ≡ j + k → isEqual (lex (x ++ y) b) ≡ isEqual (lex x (part 0 j b)) && isEqual (lex y (part j k b))
+two-fields : (j k : ℕ) (x y b : List ℕ) → length x ≡ j → length b ≡ j + k → isEqual (lex (x ++ y) b) ≡ isEqual (lex x (part 0 j b)) && isEqual (lex y (part j k b))
 two-fields j k x y b e l =
-    let whole : part 0 (j + k) b ≡ b = ap (λ n. part 0 n b) (sym l) ∙ P.part-all b in
+    let whole : part 0 (j + k) b ≡ b = P.part-whole (j + k) b l in
     let start : 0 + j ≡ j = omega arith in
     let cut : b ≡ part 0 j b ++ part j k b = sym whole ∙ P.part-add 0 j k b ∙ ap (λ n. part 0 j b ++ part n k b) start in
     let long : length x ≡ length (part 0 j b) = e ∙ sym (P.length-part 0 j b (omega arith)) in
@@ -47,7 +47,7 @@ two-fields j k x y b e l =
     ∙ then-same (lex x (part 0 j b)) (lex y (part j k b))
 
 -- zeros
-pub zeros-same : (b : List ℕ) → isEqual (lex (replicate (length b) 0) b) ≡ allZero b
+zeros-same : (b : List ℕ) → isEqual (lex (replicate (length b) 0) b) ≡ allZero b
 unfolding lex allZero
 zeros-same [] = refl
 zeros-same (x ∷ b) =
@@ -59,11 +59,11 @@ zeros-same (x ∷ b) =
     as-cond true q = refl
     as-cond false q = refl
 
-pub zeros-are : (n : ℕ) (b : List ℕ) → length b ≡ n → isEqual (lex (replicate n 0) b) ≡ allZero b
+zeros-are : (n : ℕ) (b : List ℕ) → length b ≡ n → isEqual (lex (replicate n 0) b) ≡ allZero b
 zeros-are n b e = ap (λ m. isEqual (lex (replicate m 0) b)) (sym e) ∙ zeros-same b
 
 -- one byte
-pub byte-same : (n : ℕ) (b : List ℕ) → AreBytes b → length b ≡ 1 → n < 256 → isEqual (lex (bytesOf 1 n) b) ≡ eqb (be b) n
+byte-same : (n : ℕ) (b : List ℕ) → AreBytes b → length b ≡ 1 → n < 256 → isEqual (lex (bytesOf 1 n) b) ≡ eqb (be b) n
 byte-same n b ab e h =
     let there : b ≡ bytesOf 1 (be b) = sym (ap (λ k. bytesOf k (be b)) (sym e) ∙ N.bytesOf-be b ab) in
     let small : be b < 256 ^ 1 = subst (λ k. be b < 256 ^ k) e (N.be-lt b ab) in
@@ -73,7 +73,7 @@ byte-same n b ab e h =
     ∙ eqb-turn n (be b)
 
 -- a number is not above n exactly if it is the lesser of the two
-pub at-most : (f n : ℕ) → eqb f (min f n) ≡ leb f n
+at-most : (f n : ℕ) → eqb f (min f n) ≡ leb f n
 at-most f n =
     cases (leb f n) (λ e. eq-eqb f (min f n) (let h = leb-true f n e in omega arith) ∙ sym e)
     (λ e. ne-eqb f (min f n) (λ q. let h = leb-false f n e in absurd (omega arith)) ∙ sym e)
@@ -122,7 +122,7 @@ module _ {A : Type 0} (c : Codec A) where
   viewed-steady to from h s b e = ap (λ x. length (c .spell x)) (h (c .read b)) ∙ s b e
 
   -- the places of a list
-  pub flat-steady : Steady c → (m at : ℕ) (b : List ℕ) → at + m * c .size ≤ length b → length (flat (c .spell) (map (c .read) (runs m (c .size) at b))) ≡ m * c .size
+  flat-steady : Steady c → (m at : ℕ) (b : List ℕ) → at + m * c .size ≤ length b → length (flat (c .spell) (map (c .read) (runs m (c .size) at b))) ≡ m * c .size
   unfolding flat runs
   flat-steady s zero at b h = omega arith
   flat-steady s (suc m) at b h =
@@ -243,7 +243,7 @@ module _ {A : Type 0} (c : Codec A) where
   viewed-spelled to from h b = ap (λ x. isEqual (lex (c .spell x) b)) (h (c .read b))
 
   -- each of the places
-  pub flat-spelled : Steady c → (m at : ℕ) (b : List ℕ) → at + m * c .size ≤ length b
+  flat-spelled : Steady c → (m at : ℕ) (b : List ℕ) → at + m * c .size ≤ length b
       → isEqual (lex (flat (c .spell) (map (c .read) (runs m (c .size) at b))) (part at (m * c .size) b)) ≡ all (spelled c) (runs m (c .size) at b)
   unfolding spelled flat runs all
   flat-spelled s zero at b h =

@@ -29,7 +29,7 @@ use Rattle.volume.specs.declared.snapshot.Snapshot as declared
 use Rattle.volume.specs.Snapshots as Snap
 use Rattle.volume.specs.Snapshots.{rangeSays}
 use Rattle.arguments.specs.Snapshots.{snapshotIn}
-use Rattle.arguments.proofs.SnapshotLaws.{arg-says, in-few}
+use Rattle.arguments.proofs.SnapshotLaws.{arg-says}
 use Rattle.arguments.specs.Replies.{none-under, given}
 use Rattle.resultlists.specs.Lists.{slotsIn, listLeft}
 use Rattle.resultlists.specs.Snapshots.{snapshotGiven, onSnapshot}
@@ -144,8 +144,3 @@ module _ (t : List ℕ) (ok : commitsOk t ≡ true) (b : List ℕ) (n : ℕ) (e 
         (commits-room z ∙ room-there commitBytes 722 (commits .wide) was all m (k ∙ ap length first-all) h)
         (p ∙ ap (λ (l : List Commit). put 0 (flat (commitBytes .spell) l) was) first-all)
         (k ∙ ap length first-all)
-
--- at most 8 ranges are read of bytes
-pub arg-few : (b : List ℕ) (s : declared.Snapshot) → s ≡ Snap.laid (snapshotIn b) → s .len ≤ 8
-unfolding Snap.laid
-arg-few b s e = omega (arith, in-few b, ap (λ (x : declared.Snapshot). x .len) e)

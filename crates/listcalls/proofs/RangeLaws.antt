@@ -117,7 +117,7 @@ module _ (t : List ℕ) (ok : commitsOk t ≡ true) (slots : ℕ) (r : Range) wh
   pub stored-2 : rangeLsns r ≡ true → rangeOrder r ≡ false → lent (commitsOk t) (storedLsns (commitsIn t) slots r) ≡ refused 2
   stored-2 e f = past-20 true false e f
 
-  pub stored-room : rangeLsns r ≡ true → rangeOrder r ≡ true → lent (commitsOk t) (storedLsns (commitsIn t) slots r) ≡ room
+  stored-room : rangeLsns r ≡ true → rangeOrder r ≡ true → lent (commitsOk t) (storedLsns (commitsIn t) slots r) ≡ room
   stored-room e f = past-20 true true e f
 
 -- ---- and its ends, where the range's commits stand from one place up to another

@@ -37,7 +37,7 @@ pub fn checkpoint_at(t: &[u8], log: LogId, lsn: Lsn) -> MaybeLsn
     requires { ⌜ checkpointsOk (now t) ≡ true ⌝ }
     ensures { λ r. ⌜ maybeLsnSays r ≡ checkpointLsn (checkpointAt (checkpointsIn (now (t .entry))) log (lsn .0)) ⌝ }
 {
-    let key = entries::checkpoint_key(log, lsn);
+    let key = layout::log_key(log, lsn.0);
     let i = table::from_key(t, CHECKPOINT, CHECKPOINT, &key);
     if i == table::count(t) {
         return MaybeLsn::Missing;

@@ -12,7 +12,7 @@ use Rattle.octets.specs.Bytes.{be, bytesOf, down, AreBytes}
 
 -- ---- the number that bytes spell
 
-pub pow-some : (k : ℕ) → 0 < 256 ^ k
+pow-some : (k : ℕ) → 0 < 256 ^ k
 pow-some zero = lit< tt
 pow-some (suc k) = rw pow-suc (omega (arith, pow-some k))
 
@@ -51,7 +51,7 @@ bytes-bytesOf (suc k) v zero = mod-lt (v / 256 ^ k) (lit< tt)
 bytes-bytesOf (suc k) v (suc i) = bytes-bytesOf k v i
 
 -- the k low bytes spell what is left of v by 256 ^ k
-pub be-bytesOf-mod : (k v : ℕ) → be (bytesOf k v) ≡ v % 256 ^ k
+be-bytesOf-mod : (k v : ℕ) → be (bytesOf k v) ≡ v % 256 ^ k
 unfolding be bytesOf
 be-bytesOf-mod zero v = sym (mod-one v)
 be-bytesOf-mod (suc k) v =
@@ -62,7 +62,7 @@ pub be-bytesOf : (k v : ℕ) → v < 256 ^ k → be (bytesOf k v) ≡ v
 be-bytesOf k v h = be-bytesOf-mod k v ∙ mod-eq-of-lt h
 
 -- what stands above the k low bytes does not show in them
-pub bytesOf-above : (k q v : ℕ) → bytesOf k (q * 256 ^ k + v) ≡ bytesOf k v
+bytesOf-above : (k q v : ℕ) → bytesOf k (q * 256 ^ k + v) ≡ bytesOf k v
 unfolding bytesOf
 bytesOf-above zero q v = refl
 bytesOf-above (suc k) q v =
@@ -91,18 +91,10 @@ bytesOf-be (x ∷ xs) b =
     let h : (x * 256 ^ length xs + be xs) / 256 ^ length xs % 256 ≡ x = ap (λ (n : ℕ). n % 256) (digits-div x l) ∙ mod-eq-of-lt (b 0) in
     ap₂ {C = List ℕ} (λ a r. a ∷ r) h (bytesOf-above (length xs) x (be xs) ∙ bytesOf-be xs (λ i. b (suc i)))
 
--- bytes of one length that spell one number are the same
-pub be-same : (xs ys : List ℕ) → AreBytes xs → AreBytes ys → length xs ≡ length ys → be xs ≡ be ys → xs ≡ ys
-be-same xs ys b c e h = sym (bytesOf-be xs b) ∙ ap₂ bytesOf e h ∙ bytesOf-be ys c
-
--- numbers of k bytes with the same bytes are the same
-pub bytesOf-same : (k m n : ℕ) → m < 256 ^ k → n < 256 ^ k → bytesOf k m ≡ bytesOf k n → m ≡ n
-bytesOf-same k m n p q e = sym (be-bytesOf k m p) ∙ ap be e ∙ be-bytesOf k n q
-
 -- ---- numbers in falling order
 
 -- a number below m and its complement
-pub complement-lt : (m v : ℕ) → 0 < m → m - 1 - v < m
+complement-lt : (m v : ℕ) → 0 < m → m - 1 - v < m
 complement-lt m v h = omega arith
 
 pub complement-twice : (m v : ℕ) → v < m → m - 1 - (m - 1 - v) ≡ v
@@ -125,10 +117,6 @@ pub down-be : (xs : List ℕ) → AreBytes xs → down (length xs) (256 ^ length
 unfolding down
 down-be xs b =
     ap (bytesOf (length xs)) (complement-twice (256 ^ length xs) (be xs) (be-lt xs b)) ∙ bytesOf-be xs b
-
--- numbers of k bytes with the same falling bytes are the same
-pub down-same : (k m n : ℕ) → m < 256 ^ k → n < 256 ^ k → down k m ≡ down k n → m ≡ n
-down-same k m n p q e = let h : 256 ^ k - 1 - m ≡ 256 ^ k - 1 - n = sym (be-down k m) ∙ ap be e ∙ be-down k n in omega arith
 
 -- ---- four bytes from the last to the first
 

@@ -90,7 +90,7 @@ ordering-order m n =
     (λ h e. rw e (sym (compare-greater m n h)))
 
 -- the complements of two numbers stand the other way round
-pub order-complement : (p m n : ℕ) → m < p → n < p → order (p - 1 - m) (p - 1 - n) ≡ order n m
+order-complement : (p m n : ℕ) → m < p → n < p → order (p - 1 - m) (p - 1 - n) ≡ order n m
 order-complement p m n hm hn =
     orders n m
     (λ h e. order-less (p - 1 - m) (p - 1 - n) (omega arith) ∙ sym e)
@@ -103,7 +103,7 @@ more p x y m n h k =
     let q : suc x * p ≤ y * p = mul-le-mul-right p h in
     omega (arith, suc-mul x p)
 
-pub order-digits : (p x y m n : ℕ) → m < p → n < p → order (x * p + m) (y * p + n) ≡ thenBy (order x y) (order m n)
+order-digits : (p x y m n : ℕ) → m < p → n < p → order (x * p + m) (y * p + n) ≡ thenBy (order x y) (order m n)
 unfolding thenBy
 order-digits p x y m n hm hn =
     orders x y
@@ -139,13 +139,6 @@ then-decided Less p h = refl
 then-decided Equal p h = cc
 then-decided Greater p h = refl
 
--- where both are Equal, the first is
-pub then-first : (o p : Order) → thenBy o p ≡ Equal → o ≡ Equal
-unfolding thenBy
-then-first Less p h = cc
-then-first Equal p h = refl
-then-first Greater p h = cc
-
 pub isEqual-true : (o : Order) → isEqual o ≡ true → o ≡ Equal
 isEqual-true Less h = cc
 isEqual-true Equal h = refl
@@ -178,12 +171,6 @@ same-lex a b e = rw e (lex-self b)
 -- what a test for the same strings says
 pub same-true : (a b : List ℕ) → isEqual (lex a b) ≡ true → a ≡ b
 same-true a b h = lex-same a b (isEqual-true (lex a b) h)
-
-pub same-false : (a b : List ℕ) → isEqual (lex a b) ≡ false → a ≡ b → ⊥
-same-false a b h e =
-    let t : isEqual (lex a b) ≡ true = ap isEqual (same-lex a b e) in
-    let z : _≡_ {A = ℕ} 0 1 = cc in
-    omega arith
 
 pub lex-turned : (a b : List ℕ) → lex b a ≡ turned (lex a b)
 unfolding lex thenBy turned
@@ -240,7 +227,7 @@ lex-two a b at bt j k ha hb =
 
 -- ---- bytes and the numbers that they spell
 
-pub lex-be : (xs ys : List ℕ) → length xs ≡ length ys → AreBytes xs → AreBytes ys → lex xs ys ≡ order (be xs) (be ys)
+lex-be : (xs ys : List ℕ) → length xs ≡ length ys → AreBytes xs → AreBytes ys → lex xs ys ≡ order (be xs) (be ys)
 unfolding lex be
 lex-be [] [] e p q = sym (order-equal 0 0 refl)
 lex-be [] (y ∷ ys) e p q = absurd (omega arith)
@@ -270,10 +257,3 @@ lex-down k m n p q =
     lex-be (down k m) (down k n) (N.length-down k m ∙ sym (N.length-down k n)) (N.bytes-down k m) (N.bytes-down k n)
     ∙ ap₂ order (N.be-down k m) (N.be-down k n)
     ∙ order-complement (256 ^ k) m n p q
-
--- bytes that stand for the numbers that they complement
-pub lex-complement : (xs ys : List ℕ) (k : ℕ) → length xs ≡ k → length ys ≡ k → AreBytes xs → AreBytes ys
-    → lex xs ys ≡ order (256 ^ k - 1 - be ys) (256 ^ k - 1 - be xs)
-lex-complement xs ys k e f p q =
-    lex-be xs ys (e ∙ sym f) p q
-    ∙ sym (order-complement (256 ^ k) (be ys) (be xs) (subst (λ (n : ℕ). be ys < 256 ^ n) f (N.be-lt ys q)) (subst (λ (n : ℕ). be xs < 256 ^ n) e (N.be-lt xs p)))

@@ -7,8 +7,8 @@ use native.Mathlib.Nat.{le-refl, add-assoc, add-zero, zero-add, div-one, mod-eq-
 use native.Mathlib.Numerals.{add-one}
 use native.Mathlib.Omega.{arith}
 use native.Mathlib.Decide.{decLt}
-use lib.ListN.{length, getD, set, take, drop, replicate, length-append, length-take, length-drop, take-append-drop, List·getD-eq-default, List·getD-append}
-use lib.Seq.{length-take-le, take-length, getD-drop, drop-cons, take-at, drop-at, take-append-le, drop-append-le, take-take, drop-drop, drop-length, getD-take, take-add, take-all, set-split, ext-getD}
+use lib.ListN.{length, getD, set, take, drop, replicate, length-append, length-take, length-drop, length-replicate, drop-of-length-le, take-append-drop, List·getD-eq-default, List·getD-append}
+use lib.Seq.{length-take-le, take-length, getD-drop, drop-cons, take-at, drop-at, take-append-le, drop-append-le, take-take, drop-drop, drop-length, getD-take, take-add, take-all, set-split}
 use lib.Dec.{eqb}
 use borrow.Author.Tests.{eqb-true}
 use Rattle.octets.specs.Bytes.{be, bytesOf, part, put, AreBytes, allZero}
@@ -27,10 +27,6 @@ length-put at ys xs h = simp (length-append, length-take, length-drop) (omega ar
 pub length-two : (k n : ℕ) (xs ys : List ℕ) → length xs ≡ k → length ys ≡ n → length (xs ++ ys) ≡ k + n
 length-two k n xs ys e f = length-append xs ys ∙ (cc)
 
-pub getD-part : (at k i : ℕ) (xs : List ℕ) → i < k → getD (part at k xs) i 0 ≡ getD xs (at + i) 0
-unfolding part
-getD-part at k i xs h = getD-take k (drop at xs) i 0 h ∙ getD-drop at xs i 0
-
 pub bytes-part : (at k : ℕ) (xs : List ℕ) → AreBytes xs → AreBytes (part at k xs)
 unfolding part
 bytes-part at k xs b i = go (decLt i k)
@@ -42,10 +38,6 @@ bytes-part at k xs b i = go (decLt i k)
         rw List·getD-eq-default (omega arith)
 
 -- ---- parts
-
-pub part-is : (at k : ℕ) (xs : List ℕ) → part at k xs ≡ take k (drop at xs)
-unfolding part
-part-is at k xs = refl
 
 -- the first k elements
 pub part-front : (k : ℕ) (xs : List ℕ) → part 0 k xs ≡ take k xs
@@ -60,12 +52,16 @@ pub part-all : (xs : List ℕ) → part 0 (length xs) xs ≡ xs
 unfolding part
 part-all xs = take-length xs
 
+-- the same by the length that is known
+pub part-whole : (k : ℕ) (xs : List ℕ) → length xs ≡ k → part 0 k xs ≡ xs
+part-whole k xs e = ap (λ (n : ℕ). part 0 n xs) (sym e) ∙ part-all xs
+
 -- one part after another
 pub part-add : (at k n : ℕ) (xs : List ℕ) → part at (k + n) xs ≡ part at k xs ++ part (at + k) n xs
 unfolding part
 part-add at k n xs = take-add k n (drop at xs) ∙ ap (λ (r : List ℕ). take k (drop at xs) ++ take n r) (drop-drop k at xs)
 
-pub part-one : (at : ℕ) (xs : List ℕ) → at < length xs → part at 1 xs ≡ getD xs at 0 ∷ []
+part-one : (at : ℕ) (xs : List ℕ) → at < length xs → part at 1 xs ≡ getD xs at 0 ∷ []
 unfolding part
 part-one at xs h = ap (take 1) (drop-cons xs at 0 h)
 
@@ -79,7 +75,7 @@ unfolding part
 part-less at k xs h = ap (take (suc k)) (drop-cons xs at 0 h) ∙ ap (λ (n : ℕ). getD xs at 0 ∷ take k (drop n xs)) (sym (add-one at))
 
 -- four elements
-pub part-four : (at : ℕ) (xs : List ℕ) → at + 4 ≤ length xs → part at 4 xs ≡ getD xs at 0 ∷ getD xs (at + 1) 0 ∷ getD xs (at + 2) 0 ∷ getD xs (at + 3) 0 ∷ []
+part-four : (at : ℕ) (xs : List ℕ) → at + 4 ≤ length xs → part at 4 xs ≡ getD xs at 0 ∷ getD xs (at + 1) 0 ∷ getD xs (at + 2) 0 ∷ getD xs (at + 3) 0 ∷ []
 part-four at xs h =
     let two : at + 1 + 1 ≡ at + 2 = omega arith in
     let three : at + 2 + 1 ≡ at + 3 = omega arith in
@@ -120,7 +116,7 @@ part-split at k n xs ys s e f h =
 -- ---- a part of what was put
 
 -- inside it
-pub part-put-in : (at j k : ℕ) (ys xs : List ℕ) → at + length ys ≤ length xs → j + k ≤ length ys → part (at + j) k (put at ys xs) ≡ part j k ys
+part-put-in : (at j k : ℕ) (ys xs : List ℕ) → at + length ys ≤ length xs → j + k ≤ length ys → part (at + j) k (put at ys xs) ≡ part j k ys
 unfolding part put
 part-put-in at j k ys xs h i =
     let r : List ℕ = drop (at + length ys) xs in
@@ -154,14 +150,14 @@ part-put-before at b n ys xs h i =
     ∙ sym (front b n (take at xs) (drop at xs) l)
     ∙ ap (part b n) (take-append-drop at xs)
 
-pub drop-put : (at : ℕ) (ys xs : List ℕ) → at + length ys ≤ length xs → drop (at + length ys) (put at ys xs) ≡ drop (at + length ys) xs
+drop-put : (at : ℕ) (ys xs : List ℕ) → at + length ys ≤ length xs → drop (at + length ys) (put at ys xs) ≡ drop (at + length ys) xs
 unfolding put
 drop-put at ys xs h =
     let r : List ℕ = drop (at + length ys) xs in
     ap (drop (at + length ys)) (sym (append-assoc (take at xs) ys r))
     ∙ drop-at (take at xs ++ ys) r (at + length ys) (simp (length-append, length-take) (omega arith))
 
-pub take-put : (at : ℕ) (ys xs : List ℕ) → at ≤ length xs → take at (put at ys xs) ≡ take at xs
+take-put : (at : ℕ) (ys xs : List ℕ) → at ≤ length xs → take at (put at ys xs) ≡ take at xs
 unfolding put
 take-put at ys xs h = take-at (take at xs) (ys ++ drop (at + length ys) xs) at (length-take-le at xs h)
 
@@ -177,10 +173,7 @@ part-put-after at b n ys xs h i =
     ∙ drop-drop (b - (at + length ys)) (at + length ys) xs
     ∙ ap (λ (k : ℕ). drop k xs) e)
 
--- an element inside it, before it, and after it
-pub getD-put-in : (at i : ℕ) (ys xs : List ℕ) → at + length ys ≤ length xs → i < length ys → getD (put at ys xs) (at + i) 0 ≡ getD ys i 0
-getD-put-in at i ys xs h l = sym (getD-part at (length ys) i (put at ys xs) l) ∙ ap (λ (r : List ℕ). getD r i 0) (part-put-same at (length ys) ys xs refl h)
-
+-- an element before it, and after it
 pub getD-put-before : (at i : ℕ) (ys xs : List ℕ) → at ≤ length xs → i < at → getD (put at ys xs) i 0 ≡ getD xs i 0
 unfolding put
 getD-put-before at i ys xs h l =
@@ -219,7 +212,7 @@ over : (at : ℕ) (ys s t : List ℕ) → take at t ≡ take at s → drop (at +
 unfolding put
 over at ys s t p q = rw (p, q)
 
-pub put-again : (at : ℕ) (xs ys s : List ℕ) → length xs ≡ length ys → at + length ys ≤ length s → put at ys (put at xs s) ≡ put at ys s
+put-again : (at : ℕ) (xs ys s : List ℕ) → length xs ≡ length ys → at + length ys ≤ length s → put at ys (put at xs s) ≡ put at ys s
 put-again at xs ys s e h =
     let l : at + length xs ≤ length s = omega arith in
     let d : drop (at + length ys) (put at xs s) ≡ drop (at + length ys) s = subst (λ (n : ℕ). drop (at + n) (put at xs s) ≡ drop (at + n) s) e (drop-put at xs s l) in
@@ -242,6 +235,33 @@ put-put at xs ys s h =
 pub put-next : (at k n : ℕ) (xs ys s : List ℕ) → length xs ≡ k → length ys ≡ n → at + k + n ≤ length s → put (at + k) ys (put at xs s) ≡ put at (xs ++ ys) s
 put-next at k n xs ys s e f h =
     subst (λ (j : ℕ). put (at + j) ys (put at xs s) ≡ put at (xs ++ ys) s) e (put-put at xs ys s (omega arith))
+
+-- over what was put at the same place and is no longer than it
+pub put-wider : (at : ℕ) (xs ys t : List ℕ) → length xs ≤ length ys → at + length ys ≤ length t → put at ys (put at xs t) ≡ put at ys t
+put-wider at xs ys t l h =
+    let n : ℕ = length xs in
+    let a : List ℕ = take n ys in
+    let b : List ℕ = drop n ys in
+    let la : length a ≡ n = length-take-le n ys l in
+    let lb : length b ≡ length ys - n = length-drop n ys in
+    let lx : length (put at xs t) ≡ length t = length-put at xs t (omega arith) in
+    let cut : (u : List ℕ) → length u ≡ length t → put at ys u ≡ put (at + n) b (put at a u) =
+    λ u e. ap (λ (y : List ℕ). put at y u) (sym (take-append-drop n ys)) ∙ sym (put-next at n (length ys - n) a b u la lb (omega arith)) in
+    cut (put at xs t) lx
+    ∙ ap (put (at + n) b) (put-again at xs a t (sym la) (omega arith))
+    ∙ sym (cut t refl)
+
+-- over what was put within the same bytes
+pub put-within : (at bt : ℕ) (xs ys t : List ℕ) → at ≤ bt → bt + length xs ≤ at + length ys → at + length ys ≤ length t → put at ys (put bt xs t) ≡ put at ys t
+put-within at bt xs ys t ab l h =
+    let m : ℕ = bt - at in
+    let e : at + m ≡ bt = omega arith in
+    let x : List ℕ = part at m t in
+    let lx : length x ≡ m = length-part at m t (omega arith) in
+    let w : put bt xs t ≡ put at (x ++ xs) t =
+    ap₂ (λ (n : ℕ) (u : List ℕ). put n xs u) (sym e) (sym (put-part at m t (omega arith)))
+    ∙ put-next at m (length xs) x xs t lx refl (omega arith) in
+    ap (put at ys) w ∙ put-wider at (x ++ xs) ys t (omega (arith, length-append x xs)) h
 
 -- two stores in a row, as the code has them: t after the first, u after the second
 pub chain : (at k n : ℕ) (xs ys s t u : List ℕ) → length xs ≡ k → length ys ≡ n → at + k + n ≤ length s
@@ -276,51 +296,12 @@ put-front at k n xs ys s e f h =
     ∙ ap (λ (v : List ℕ). take at s ++ v) (sym (append-assoc xs ys r))
     ∙ ap (λ (n : ℕ). take at s ++ ((xs ++ ys) ++ drop n s)) c
 
--- two runs that lie apart, in either order
-module _ (at bt : ℕ) (xs ys s : List ℕ) (h : at + length xs ≤ bt) (l : bt + length ys ≤ length s) (i : ℕ) where
-  out-x : (t : List ℕ) → length t ≡ length s → (i < at → ⊥) → (i < at + length xs → ⊥) → getD (put at xs t) i 0 ≡ getD t i 0
-  out-x t e p q = getD-put-after at i xs t (omega arith) (omega arith)
-
-  apart : Dec (i < at) → Dec (i < at + length xs) → Dec (i < bt) → Dec (i < bt + length ys) → getD (put at xs (put bt ys s)) i 0 ≡ getD (put bt ys (put at xs s)) i 0
-  apart a b c d =
-      let lx : length (put at xs s) ≡ length s = length-put at xs s (omega arith) in
-      let ly : length (put bt ys s) ≡ length s = length-put bt ys s l in
-      go lx ly a b c d
-    where
-      go : length (put at xs s) ≡ length s → length (put bt ys s) ≡ length s → Dec (i < at) → Dec (i < at + length xs) → Dec (i < bt) → Dec (i < bt + length ys)
-          → getD (put at xs (put bt ys s)) i 0 ≡ getD (put bt ys (put at xs s)) i 0
-      go lx ly (yes p) b c d =
-          getD-put-before at i xs (put bt ys s) (omega arith) p ∙ getD-put-before bt i ys s (omega arith) (omega arith)
-          ∙ sym (getD-put-before bt i ys (put at xs s) (omega arith) (omega arith) ∙ getD-put-before at i xs s (omega arith) p)
-      go lx ly (no p) (yes q) c d =
-          let e : at + (i - at) ≡ i = omega arith in
-          let k : i - at < length xs = omega arith in
-          ap (λ (n : ℕ). getD (put at xs (put bt ys s)) n 0) (sym e)
-          ∙ getD-put-in at (i - at) xs (put bt ys s) (omega arith) k
-          ∙ sym (getD-put-before bt i ys (put at xs s) (omega arith) (omega arith) ∙ ap (λ (n : ℕ). getD (put at xs s) n 0) (sym e) ∙ getD-put-in at (i - at) xs s (omega arith) k)
-      go lx ly (no p) (no q) (yes r) d =
-          out-x (put bt ys s) ly p q ∙ getD-put-before bt i ys s (omega arith) r
-          ∙ sym (getD-put-before bt i ys (put at xs s) (omega arith) r ∙ out-x s refl p q)
-      go lx ly (no p) (no q) (no r) (yes t) =
-          let e : bt + (i - bt) ≡ i = omega arith in
-          let k : i - bt < length ys = omega arith in
-          out-x (put bt ys s) ly p q
-          ∙ ap (λ (n : ℕ). getD (put bt ys s) n 0) (sym e)
-          ∙ getD-put-in bt (i - bt) ys s l k
-          ∙ sym (ap (λ (n : ℕ). getD (put bt ys (put at xs s)) n 0) (sym e) ∙ getD-put-in bt (i - bt) ys (put at xs s) (omega arith) k)
-      go lx ly (no p) (no q) (no r) (no t) =
-          out-x (put bt ys s) ly p q ∙ getD-put-after bt i ys s l (omega arith)
-          ∙ sym (getD-put-after bt i ys (put at xs s) (omega arith) (omega arith) ∙ out-x s refl p q)
-
-pub put-apart : (at bt : ℕ) (xs ys s : List ℕ) → at + length xs ≤ bt → bt + length ys ≤ length s → put at xs (put bt ys s) ≡ put bt ys (put at xs s)
-put-apart at bt xs ys s h l =
-    let m : at + length xs ≤ length s = omega arith in
-    let lx : length (put at xs s) ≡ length s = length-put at xs s m in
-    let ly : length (put bt ys s) ≡ length s = length-put bt ys s l in
-    let mx : at + length xs ≤ length (put bt ys s) = omega arith in
-    let my : bt + length ys ≤ length (put at xs s) = omega arith in
-    ext-getD 0 (put at xs (put bt ys s)) (put bt ys (put at xs s)) (length-put at xs (put bt ys s) mx ∙ ly ∙ sym lx ∙ sym (length-put bt ys (put at xs s) my)) (λ i d.
-    apart at bt xs ys s h l i (decLt i at) (decLt i (at + length xs)) (decLt i bt) (decLt i (bt + length ys)))
+-- n bytes put behind the first of n + 1 zeros
+pub put-behind-zero : (n : ℕ) (ys : List ℕ) → length ys ≡ n → put 1 ys (replicate (suc n) 0) ≡ 0 ∷ ys
+unfolding put
+put-behind-zero n ys e =
+    let l : length (replicate {A = ℕ} (suc n) 0) ≤ 1 + length ys = omega (arith, length-replicate {A = ℕ} (suc n) 0) in
+    ap (λ (r : List ℕ). 0 ∷ (ys ++ r)) (drop-of-length-le (replicate (suc n) 0) l) ∙ ap (λ (r : List ℕ). 0 ∷ r) (append-nil ys)
 
 -- one element
 pub put-one : (at x : ℕ) (xs : List ℕ) → at < length xs → put at (x ∷ []) xs ≡ set xs at x
@@ -358,10 +339,6 @@ turned-at at a b c d s h p q r t =
     let e : part at 4 s ≡ a ∷ b ∷ c ∷ d ∷ [] = part-four at s h ∙ (cc) in
     N.lowest-first a b c d (p .1) (q .1) (r .1) (t .1) ∙ sym (ap reverse e)
 
--- a number read where it was stored
-pub load-store : (at k v : ℕ) (s : List ℕ) → v < 256 ^ k → at + k ≤ length s → be (part at k (put at (bytesOf k v) s)) ≡ v
-load-store at k v s l h = ap be (part-put-same at k (bytesOf k v) s (N.length-bytesOf k v) h) ∙ N.be-bytesOf k v l
-
 -- one byte stored
 pub store-one : (at v : ℕ) (s : List ℕ) → v < 256 → at < length s → set s at v ≡ put at (bytesOf 1 v) s
 unfolding bytesOf
@@ -373,20 +350,6 @@ pub store-two : (at j k v hi lo : ℕ) (s t u : List ℕ) → at + (j + k) ≤ l
 store-two at j k v hi lo s t u h p q e f =
     chain at j k (bytesOf j hi) (bytesOf k lo) s t u (N.length-bytesOf j hi) (N.length-bytesOf k lo) (omega arith) e f
     ∙ ap (λ (l : List ℕ). put at l s) (ap₂ (λ (x y : List ℕ). x ++ y) p q ∙ sym (N.bytesOf-two j k v))
-
--- bytes put over bytes are bytes
-pub bytes-put : (at : ℕ) (ys xs : List ℕ) → AreBytes ys → AreBytes xs → at + length ys ≤ length xs → AreBytes (put at ys xs)
-bytes-put at ys xs b c h i = go (decLt i at) (decLt i (at + length ys))
-  where
-    go : Dec (i < at) → Dec (i < at + length ys) → getD (put at ys xs) i 0 < 256
-    go (yes l) e = rw (getD-put-before at i ys xs (omega arith) l) (c i)
-    go (no l) (no m) = rw (getD-put-after at i ys xs h (omega arith)) (c i)
-    go (no l) (yes m) =
-        let e : at + (i - at) ≡ i = omega arith in
-        let k : i - at < length ys = omega arith in
-        let g : getD (put at ys xs) (at + (i - at)) 0 ≡ getD ys (i - at) 0 =
-        sym (getD-part at (length ys) (i - at) (put at ys xs) k) ∙ ap (λ (r : List ℕ). getD r (i - at) 0) (part-put-same at (length ys) ys xs refl h) in
-        rw (ap (λ (n : ℕ). getD (put at ys xs) n 0) (sym e) ∙ g) (b (i - at))
 
 -- ---- all zero
 

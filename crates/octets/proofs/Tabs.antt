@@ -1,12 +1,12 @@
 -- The laws of `tab`, and the turns of a loop that fills an array with its elements.
 use mathlib.Core.Path.{_≡_, refl, sym, ap, _∙_, subst}
-use mathlib.Core.List.{List, [], _∷_, _++_, append-nil}
-use Prim.Native.Nat.{ℕ, zero, suc, _+_, _<_}
+use mathlib.Core.List.{List, [], _∷_, _++_}
+use Prim.Native.Nat.{ℕ, zero, suc, _+_, _-_, _<_}
 use native.Mathlib.Omega.{arith}
 use native.Mathlib.Numerals.{add-one}
 use native.Mathlib.Decide.{decLt}
-use lib.ListN.{length, getD, set, drop, length-append, List·getD-append}
-use lib.Seq.{drop-cons, set-at, append-snoc, drop-length, getD-at}
+use lib.ListN.{length, getD, set, drop, replicate, length-append, List·getD-append}
+use lib.Seq.{drop-cons, set-at, append-snoc, getD-at}
 use Rattle.octets.specs.Tab.{tab}
 
 module _ {A : Type 0} (f : ℕ → A) where
@@ -29,10 +29,6 @@ module _ {A : Type 0} (f : ℕ → A) where
       ∙ sym (append-snoc (tab f i) (f i) (drop (suc i) d))
       ∙ ap (λ (n : ℕ). tab f n ++ drop n d) (sym (add-one i))
 
-  -- all stored
-  pub tab-all : (d xs : List A) (i n : ℕ) → xs ≡ tab f i ++ drop i d → length d ≡ n → i ≡ n → xs ≡ tab f n
-  tab-all d xs i n e l h = e ∙ rw (h, ← l, drop-length, append-nil)
-
   pub getD-tab : (z : A) (n i : ℕ) → i < n → getD (tab f n) i z ≡ f i
   unfolding tab
   getD-tab z zero i h = absurd (omega arith)
@@ -45,3 +41,9 @@ module _ {A : Type 0} (f : ℕ → A) where
       go rest (no l) =
           let e : i ≡ n = omega arith in
           getD-at (tab f n) (f n) [] z i (length-tab n ∙ sym e) ∙ ap f (sym e)
+
+-- the rest of an array that was filled with one value
+pub drop-replicate : {A : Type 0} (z : A) (n i : ℕ) → drop i (replicate n z) ≡ replicate (n - i) z
+drop-replicate z n zero = let e : n - 0 ≡ n = omega arith in ap (λ (m : ℕ). replicate m z) (sym e)
+drop-replicate z zero (suc i) = let e : 0 - suc i ≡ 0 = omega arith in ap (λ (m : ℕ). replicate m z) (sym e)
+drop-replicate z (suc n) (suc i) = drop-replicate z n i ∙ (let e : n - i ≡ suc n - suc i = omega arith in ap (λ (m : ℕ). replicate m z) e)

@@ -32,7 +32,7 @@ copied-more d s t at from j e hs hd =
     ∙ ap (λ (r : List ℕ). put at r d) (sym (P.part-more from j s hs))
 
 -- one more at the front: k elements are still to go
-pub copied-less : (d s t : List ℕ) (at from n k : ℕ) → 0 < k → k ≤ n → from + n ≤ length s → at + n ≤ length d
+copied-less : (d s t : List ℕ) (at from n k : ℕ) → 0 < k → k ≤ n → from + n ≤ length s → at + n ≤ length d
     → t ≡ put (at + k) (part (from + k) (n - k) s) d → set t (at + (k - 1)) (getD s (from + (k - 1)) 0) ≡ put (at + (k - 1)) (part (from + (k - 1)) (n - (k - 1)) s) d
 copied-less d s t at from n k k0 kn hs hd e =
     let m : ℕ = k - 1 in
@@ -104,21 +104,18 @@ module _ (a b : List ℕ) (at bt : ℕ) where
 
 -- ---- identifiers: 16 bytes, by two words
 
-whole : (a : List ℕ) → length a ≡ 16 → part 0 16 a ≡ a
-whole a e = ap (λ (n : ℕ). part 0 n a) (sym e) ∙ P.part-all a
-
 module _ (a b : List ℕ) (la : length a ≡ 16) (lb : length b ≡ 16) (p : AreBytes a) (q : AreBytes b) (x y : ℕ) (ex : x ≡ be (part 0 8 a)) (ey : y ≡ be (part 0 8 b)) where
   by-first : lex (part 0 8 a) (part 0 8 b) ≡ order x y
   by-first = by-word a b 0 0 p q 0 8 x y (omega arith) (omega arith) (no-bytes a b 0 0) ex ey
 
   pub first-word : (x ≡ y → ⊥) → lex a b ≡ order x y
   first-word h =
-      sym (ap₂ lex (whole a la) (whole b lb))
+      sym (ap₂ lex (P.part-whole 16 a la) (P.part-whole 16 b lb))
       ∙ decided a b 0 0 8 16 (order x y) (omega arith) (omega arith) (omega arith) by-first (O.order-differs x y h)
 
   pub second-word : x ≡ y → (u v : ℕ) → u ≡ be (part 8 8 a) → v ≡ be (part 8 8 b) → lex a b ≡ order u v
   second-word h u v eu ev =
-      sym (ap₂ lex (whole a la) (whole b lb))
+      sym (ap₂ lex (P.part-whole 16 a la) (P.part-whole 16 b lb))
       ∙ by-word a b 0 0 p q 8 8 u v (omega arith) (omega arith) (by-first ∙ O.order-equal x y h) eu ev
 
 -- ---- all zero so far

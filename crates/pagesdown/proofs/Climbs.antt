@@ -9,7 +9,7 @@ use Rattle.pageset.specs.Sets.{holds, shown, normal}
 use Rattle.rules.specs.Lists.{those}
 use Rattle.rules.specs.Pages.{numbers, pagesIn}
 use Rattle.rules.proofs.PageCounts.{pages-listed}
-use Rattle.pagesdown.proofs.Walks.{normal-pages}
+use Rattle.pageset.proofs.FormLaws.{shown-form}
 
 -- numbers that strictly rise from at least lo, all below hi
 abbrev pub Climbs : ℕ → ℕ → List ℕ → Type 0
@@ -31,4 +31,4 @@ climbs-those f a (suc n) hi l = go (f a) (climbs-those f (suc a) n hi (omega ari
 
 pub pages-climb : (s : PageSet) → normal s ≡ true → Climbs 0 (2 ^ 32) (pagesIn (shown s))
 pages-climb s e =
-    subst (λ (ps : List ℕ). Climbs 0 (2 ^ 32) ps) (sym (pages-listed (shown s) (normal-pages s e))) (climbs-those (holds (shown s)) 0 (2 ^ 32) (2 ^ 32) (omega arith))
+    subst (λ (ps : List ℕ). Climbs 0 (2 ^ 32) ps) (sym (pages-listed (shown s) (shown-form s e))) (climbs-those (holds (shown s)) 0 (2 ^ 32) (2 ^ 32) (omega arith))

@@ -4,19 +4,19 @@
 use Prim.Native.Nat.{ℕ, zero, suc, _+_, _-_, _*_, _%_, _^_, _≤_, _<_}
 use mathlib.Core.Path.{_≡_, refl, sym, ap, _∙_, subst}
 use mathlib.Core.Logic.{⊎-elim}
-use mathlib.Core.Bool.{Bool, true, false, cond, _&&_}
+use mathlib.Core.Bool.{Bool, true, false, cond}
 use mathlib.Core.List.{List, [], _∷_, _++_, append-nil, append-assoc, reverse, reverse-append}
 use native.Mathlib.Omega.{arith}
 use borrow.Author.Tests.{eqb-true, eqb-false}
-use lib.Dec.{eqb, leb}
-use lib.ListN.{length, take, drop, getD, length-append}
+use lib.Dec.{eqb}
+use lib.ListN.{length, take, getD, length-append}
 use lib.Seq.{take-suc}
 use Rattle.pageset.specs.declared.Window.{Window}
 use Rattle.pageset.specs.declared.PageSet.{PageSet}
-use Rattle.pageset.specs.Sets.{bit, shown, member, zeroWindow, blank, normal, normalForm}
+use Rattle.pageset.specs.Sets.{bit, shown, member, zeroWindow, normal}
 use Rattle.pageset.specs.Counts.{count}
 use Rattle.pageset.proofs.BitLaws.{bit-none}
-use Rattle.pageset.proofs.FormLaws.{Normal, normal-fact, and-snd}
+use Rattle.pageset.proofs.FormLaws.{Normal, normal-fact, shown-form}
 use Rattle.pageset.proofs.WindowLaws.{eq-or}
 use Rattle.pageset.proofs.WalkLaws.{room, rises-at}
 use Rattle.pageset.proofs.EdgeLaws.{shown-at}
@@ -79,11 +79,6 @@ module _ (s : PageSet) (e : normal s ≡ true) where
   its : Normal s
   its = normal-fact s e
 
-  -- the windows that count are in normal form
-  pub normal-pages : normalForm (shown s) ≡ true
-  unfolding normal
-  normal-pages = and-snd (leb (s .len) 32 && eqb (length (s .windows)) 32 && blank (drop (s .len) (s .windows))) (normalForm (shown s)) e
-
   -- all the pages are left
   pub walk-all : pagesLeft (s .windows) (s .len) zeroWindow ≡ pagesIn (shown s)
   walk-all = left-done (s .windows) (s .len) zeroWindow refl
@@ -93,7 +88,7 @@ module _ (s : PageSet) (e : normal s ≡ true) where
     within = omega arith;
     index = omega arith;
     mask = omega arith;
-    pages = ap length walk-all ∙ size-counts (shown s) normal-pages ∙ sym c;
+    pages = ap length walk-all ∙ size-counts (shown s) (shown-form s e) ∙ sym c;
   }
 
   module _ (n : ℕ) (w : Window) (k : ℕ) (h : Walking s n w k) where

@@ -1,14 +1,14 @@
 -- The bits of a number, over any width: what the operations on masks do to each bit, that the bits determine the number, and its lowest and
 -- highest set bit. Assumes nothing.
 use Prim.Native.Nat.{ℕ, zero, suc, _+_, _-_, _*_, _/_, _%_, _^_, _≤_, _<_, min, max}
-use mathlib.Core.Path.{_≡_, refl, sym, ap, ap₂, _∙_, subst}
-use mathlib.Core.Logic.{_⊎_, inl, inr, ⊎-elim}
-use mathlib.Core.Bool.{Bool, true, false, not, _&&_, _||_}
+use mathlib.Core.Path.{_≡_, refl, sym, ap, ap₂, _∙_}
+use mathlib.Core.Logic.{_⊎_, inl, inr}
+use mathlib.Core.Bool.{Bool, true, false, not, _&&_, _||_, and-true, and-false}
 use native.Mathlib.Nat.{one-mul, mod-eq-of-lt, mod-lt, add-comm, pow-suc, div-one, mod-one, zero-div, div-eq-of-lt, lt-of-lt-of-le}
 use native.Mathlib.Numerals.{add-one}
 use native.Mathlib.Omega.{arith}
 use borrow.Author.Tests.{lt-ltb, le-ltb}
-use lib.Dec.{eqb, ltb, leb, leb·suc-suc, lit<}
+use lib.Dec.{eqb, ltb, leb·suc-suc}
 use lib.Arith.{digits-div}
 use lib.Pow.{shr-shr, pow-pos, pow-mono, pow-lt, field, mod-mod-pow}
 use lib.Bits.{bitAnd, bitOr, and-step, or-step, and-shr, or-shr, and-mask}
@@ -41,7 +41,7 @@ bit-suc m k = rw half-pow
 
 -- ---- the operations
 
-and-odd : (a b : ℕ) → bitAnd a b % 2 ≡ min (a % 2) (b % 2)
+pub and-odd : (a b : ℕ) → bitAnd a b % 2 ≡ min (a % 2) (b % 2)
 and-odd a b = omega (arith, and-step a b)
 
 or-odd : (a b : ℕ) → bitOr a b % 2 ≡ max (a % 2) (b % 2)
@@ -87,22 +87,14 @@ pub bit-none : (k : ℕ) → bit 0 k ≡ false
 unfolding bit
 bit-none k = ap (λ (x : ℕ). eqb (x % 2) 1) (zero-div (2 ^ k))
 
-pub bit-above : (m k : ℕ) → m < 2 ^ k → bit m k ≡ false
+bit-above : (m k : ℕ) → m < 2 ^ k → bit m k ≡ false
 unfolding bit
 bit-above m k h = ap (λ (x : ℕ). eqb (x % 2) 1) (div-eq-of-lt h)
 
-pub bit-past : (m w k : ℕ) → m < 2 ^ w → w ≤ k → bit m k ≡ false
+bit-past : (m w k : ℕ) → m < 2 ^ w → w ≤ k → bit m k ≡ false
 bit-past m w k h l = bit-above m k (lt-of-lt-of-le h (pow-mono l))
 
 -- ---- the bits below k
-
-and-false : (x : Bool) → (x && false) ≡ false
-and-false true = refl
-and-false false = refl
-
-and-true : (x : Bool) → (x && true) ≡ x
-and-true true = refl
-and-true false = refl
 
 pub bit-mod : (m k j : ℕ) → bit (m % 2 ^ k) j ≡ (bit m j && ltb j k)
 bit-mod m zero j = ap (λ (x : ℕ). bit x j) (mod-one m) ∙ bit-none j ∙ sym (ap (λ (b : Bool). bit m j && b) (le-ltb j 0 (omega arith)) ∙ and-false (bit m j))

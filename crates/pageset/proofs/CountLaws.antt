@@ -5,12 +5,12 @@ use mathlib.Core.Path.{_≡_, refl, sym, ap, ap₂, _∙_}
 use mathlib.Core.Logic.{_⊎_, inl, inr}
 use mathlib.Core.Bool.{Bool, true, false, cond, not, _&&_, _||_}
 use mathlib.Core.List.{List, [], _∷_}
-use mathlib.Core.Option.{Option, none, some}
+use mathlib.Core.Option.{none, some}
 use native.Mathlib.Omega.{arith}
-use native.Mathlib.Nat.{add-suc, pow-suc, suc-mul}
+use native.Mathlib.Nat.{add-suc, pow-suc}
 use borrow.Author.Tests.{le-leb, lt-leb, eq-eqb, ne-eqb}
 use lib.Dec.{eqb}
-use lib.Count.{ones, ones-step, ones-ones, ones-le}
+use lib.Count.{ones, ones-step}
 use lib.ListN.{drop, getD}
 use Rattle.pageset.specs.declared.Window.{Window}
 use Rattle.pageset.specs.declared.PageSet.{PageSet}
@@ -78,30 +78,17 @@ module _ (f : ℕ → Bool) where
   any-no zero h = refl
   any-no (suc n) h = rw (h n (omega arith)) (any-no n (λ k q. h k (omega arith)))
 
-  pub all-yes : (n : ℕ) → ((k : ℕ) → k < n → f k ≡ true) → allOf f n ≡ true
+  all-yes : (n : ℕ) → ((k : ℕ) → k < n → f k ≡ true) → allOf f n ≡ true
   unfolding allOf
   all-yes zero h = refl
   all-yes (suc n) h = rw (h n (omega arith)) (all-yes n (λ k q. h k (omega arith)))
-
-  pub all-no : (n p : ℕ) → p < n → f p ≡ false → allOf f n ≡ false
-  unfolding allOf
-  all-no zero p l e = absurd (omega arith)
-  all-no (suc n) p l e = go (lt-or p n) (λ k. all-no n p k e)
-    where
-      and-false : (b : Bool) → (b && false) ≡ false
-      and-false true = refl
-      and-false false = refl
-
-      go : (p < n) ⊎ (n ≤ p) → (p < n → allOf f n ≡ false) → (f n && allOf f n) ≡ false
-      go (inl k) ih = rw (ih k) (and-false (f n))
-      go (inr k) ih = let z : p ≡ n = omega arith in rw (← z, e)
 
 pub any-same : (f g : ℕ → Bool) (n : ℕ) → ((k : ℕ) → f k ≡ g k) → anyOf f n ≡ anyOf g n
 unfolding anyOf
 any-same f g zero h = refl
 any-same f g (suc n) h = ap₂ _||_ (h n) (any-same f g n h)
 
-pub all-fact : (f : ℕ → Bool) (n : ℕ) → allOf f n ≡ true → (k : ℕ) → k < n → f k ≡ true
+all-fact : (f : ℕ → Bool) (n : ℕ) → allOf f n ≡ true → (k : ℕ) → k < n → f k ≡ true
 unfolding allOf
 all-fact f zero e k l = absurd (omega arith)
 all-fact f (suc n) e k l = go (eq-or k n) (λ m. all-fact f n (and-snd (f n) (allOf f n) e) k m)
@@ -117,7 +104,7 @@ unfolding count
 count-same f g zero h = refl
 count-same f g (suc n) h = ap₂ (λ (b : Bool) (m : ℕ). cond b 1 0 + m) (h n (omega arith)) (count-same f g n (λ k l. h k (omega arith)))
 
-pub count-add : (f : ℕ → Bool) (a b : ℕ) → count f (a + b) ≡ count f a + count (λ k. f (a + k)) b
+count-add : (f : ℕ → Bool) (a b : ℕ) → count f (a + b) ≡ count f a + count (λ k. f (a + k)) b
 unfolding count
 count-add f a zero = let e : a + 0 ≡ a = omega arith in ap (count f) e ∙ omega arith
 count-add f a (suc b) = ap (count f) (add-suc a b) ∙ omega (arith, count-add f a b)
@@ -139,7 +126,7 @@ module _ (f g : ℕ → Bool) (h : (k : ℕ) → f k ≡ true → g k ≡ true) 
   count-le zero = omega arith
   count-le (suc n) = omega (arith, tick-le (f n) (g n) (h n), count-le n)
 
-  pub count-all : (n : ℕ) → count f n ≡ count g n → (k : ℕ) → k < n → f k ≡ g k
+  count-all : (n : ℕ) → count f n ≡ count g n → (k : ℕ) → k < n → f k ≡ g k
   unfolding count
   count-all zero e k l = absurd (omega arith)
   count-all (suc n) e k l = go (eq-or k n) (λ d m. count-all n d k m)
@@ -149,7 +136,7 @@ module _ (f g : ℕ → Bool) (h : (k : ℕ) → f k ≡ true → g k ≡ true) 
       go (inr z) ih = ih (omega (arith, tick-le (f n) (g n) (h n), count-le n)) (omega arith)
 
 -- the numbers from a to b
-pub count-within : (a b : ℕ) → a ≤ b → (n : ℕ) → count (within a b) n ≡ min n (b + 1) - a
+count-within : (a b : ℕ) → a ≤ b → (n : ℕ) → count (within a b) n ≡ min n (b + 1) - a
 unfolding count
 count-within a b h zero = omega arith
 count-within a b h (suc n) = go (count-within a b h n) (lt-or n a) (lt-or b n)
@@ -172,7 +159,7 @@ unfolding ones
 ones-zero = refl
 
 -- the set bits of a number of w bits are counted one by one
-pub ones-count : (w m : ℕ) → m < 2 ^ w → ones m ≡ count (bit m) w
+ones-count : (w m : ℕ) → m < 2 ^ w → ones m ≡ count (bit m) w
 unfolding count
 ones-count zero m h = let e : m ≡ 0 = omega arith in ap ones e ∙ ones-zero
 ones-count (suc w) m h =
@@ -227,11 +214,11 @@ pub total : List Window → ℕ
 total [] = 0
 total (w ∷ ws) = ones (w .mask) + total ws
 
-pub total-nil : total [] ≡ 0
+total-nil : total [] ≡ 0
 unfolding total
 total-nil = refl
 
-pub total-cons : (w : Window) (ws : List Window) → total (w ∷ ws) ≡ ones (w .mask) + total ws
+total-cons : (w : Window) (ws : List Window) → total (w ∷ ws) ≡ ones (w .mask) + total ws
 unfolding total
 total-cons w ws = refl
 
@@ -244,7 +231,7 @@ all-windows lo (w ∷ ws) r =
     sum-one (λ q. ones (maskAt (w ∷ ws) q)) (λ q. ones (maskAt ws q)) (w .index) (ones (w .mask)) 67108864 j (λ k n. ap ones (mask-other w ws k n)) (r .1)
     ∙ ap (λ (x : ℕ). ones (w .mask) + x) (all-windows (w .index + 1) ws (r .4))
 
-pub members-counted : (s : PageSet) → Normal s → total (shown s) ≡ count (member s) (2 ^ 32)
+members-counted : (s : PageSet) → Normal s → total (shown s) ≡ count (member s) (2 ^ 32)
 unfolding holds
 members-counted s t =
     sym (by-windows (maskAt (shown s)) (λ q. mask-lt 0 (shown s) q (t .rising)) 67108864 ∙ all-windows 0 (shown s) (t .rising))

@@ -1,22 +1,22 @@
 -- The first and the last window of a set, and with them its first and its last page. Assumes nothing.
 use Prim.Native.Nat.{ℕ, zero, suc, _+_, _-_, _*_, _/_, _%_, _^_, _≤_, _<_}
-use mathlib.Core.Path.{_≡_, refl, sym, ap, ap₂, _∙_}
+use mathlib.Core.Path.{_≡_, refl, sym, ap, _∙_}
 use mathlib.Core.Logic.{_⊎_, inl, inr}
-use mathlib.Core.Bool.{Bool, true, false, not}
+use mathlib.Core.Bool.{true, false, not}
 use mathlib.Core.List.{List, [], _∷_}
 use mathlib.Core.Option.{none, some}
 use native.Mathlib.Omega.{arith}
 use lib.Count.{trailingZeros, leadingZeros}
-use lib.ListN.{length, take, drop, getD}
+use lib.ListN.{length, take, getD}
 use lib.Seq.{getD-take}
 use Rattle.pageset.specs.declared.Window.{Window}
 use Rattle.pageset.specs.declared.PageSet.{PageSet}
 use Rattle.pageset.specs.Sets.{bit, maskAt, holds, shown, member, zeroWindow}
 use Rattle.pageset.specs.Counts.{lowest, highest, anyOf}
 use Rattle.pageset.proofs.BitLaws.{bit-none, Lowest, trailing-lowest, Highest, leading-highest}
-use Rattle.pageset.proofs.FormLaws.{Rises, Tidy, Normal, shown-length}
-use Rattle.pageset.proofs.WindowLaws.{lt-or, eq-or, mask-nil, mask-same, mask-other, mask-below}
-use Rattle.pageset.proofs.WalkLaws.{room, rises-at}
+use Rattle.pageset.proofs.FormLaws.{Rises, Normal, shown-length}
+use Rattle.pageset.proofs.WindowLaws.{lt-or, mask-nil, mask-same, mask-other, mask-below}
+use Rattle.pageset.proofs.WalkLaws.{rises-at}
 use Rattle.pageset.proofs.CountLaws.{lowest-none, lowest-is, highest-none, highest-is, any-yes, any-no}
 
 -- window i of a list in order: its index is at least lo, its mask stands at its index, and is not 0
@@ -26,7 +26,7 @@ pub record Nth (lo : ℕ) (xs : List Window) (w : Window) : Type 0 where
   pub some : 0 < w .mask
   pub fits : w .mask < 2 ^ 64
 
-pub nth : (lo : ℕ) (xs : List Window) (i : ℕ) → Rises lo xs → i < length xs → Nth lo xs (getD xs i zeroWindow)
+nth : (lo : ℕ) (xs : List Window) (i : ℕ) → Rises lo xs → i < length xs → Nth lo xs (getD xs i zeroWindow)
 unfolding Rises
 nth lo [] i r h = absurd (omega arith)
 nth lo (w ∷ ws) zero r h = record { low = r .0; here = mask-same w ws (w .index) refl; some = r .2; fits = r .3 }
@@ -35,7 +35,7 @@ nth lo (w ∷ ws) (suc i) r h =
     record { low = omega (arith, r .0, n .low); here = mask-other w ws _ (λ e. omega (arith, n .low)) ∙ n .here; some = n .some; fits = n .fits }
 
 -- no window stands above the last
-pub past : (lo : ℕ) (xs : List Window) (i : ℕ) → Rises lo xs → i + 1 ≡ length xs → (q : ℕ) → getD xs i zeroWindow .index < q → maskAt xs q ≡ 0
+past : (lo : ℕ) (xs : List Window) (i : ℕ) → Rises lo xs → i + 1 ≡ length xs → (q : ℕ) → getD xs i zeroWindow .index < q → maskAt xs q ≡ 0
 unfolding Rises
 past lo [] i r h q l = absurd (omega arith)
 past lo (w ∷ []) zero r h q l = mask-other w [] q (λ e. omega arith) ∙ mask-nil q
@@ -109,12 +109,12 @@ module _ (s : PageSet) (t : Normal s) where
     pub high : (b : ℕ) × (leadingZeros 64 (getD (s .windows) (s .len - 1) zeroWindow .mask) + b + 1 ≡ 64) × Highest (getD (s .windows) (s .len - 1) zeroWindow .mask) b
     high = leading-highest 64 (top .mask) (shown-at end last-here .some) (shown-at end last-here .fits)
 
-    pub last-in : member s (getD (s .windows) (s .len - 1) zeroWindow .index * 64 + (63 - leadingZeros 64 (getD (s .windows) (s .len - 1) zeroWindow .mask))) ≡ true
+    last-in : member s (getD (s .windows) (s .len - 1) zeroWindow .index * 64 + (63 - leadingZeros 64 (getD (s .windows) (s .len - 1) zeroWindow .mask))) ≡ true
     last-in =
         let e : 63 - leadingZeros 64 (top .mask) ≡ high .0 = omega (arith, high .1) in
         page-of end last-here _ (omega (arith, high .1)) ∙ ap (bit (top .mask)) e ∙ high .2 .set
 
-    pub last-greatest : (k : ℕ) → getD (s .windows) (s .len - 1) zeroWindow .index * 64 + (63 - leadingZeros 64 (getD (s .windows) (s .len - 1) zeroWindow .mask)) < k → member s k ≡ false
+    last-greatest : (k : ℕ) → getD (s .windows) (s .len - 1) zeroWindow .index * 64 + (63 - leadingZeros 64 (getD (s .windows) (s .len - 1) zeroWindow .mask)) < k → member s k ≡ false
     last-greatest k l = go (lt-or (top .index) (k / 64))
       where
         go : (top .index < k / 64) ⊎ (k / 64 ≤ top .index) → member s k ≡ false

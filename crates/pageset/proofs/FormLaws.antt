@@ -1,16 +1,17 @@
 -- What the tests of Sets say, as facts: a test that is true gives the facts, and the facts make it true. Assumes nothing.
 use Prim.Native.Nat.{ℕ, zero, suc, _+_, _-_, _^_, _≤_, _<_}
-use mathlib.Core.Path.{_≡_, refl, sym, ap, ap₂, _∙_}
+use mathlib.Core.Path.{_≡_, refl, ap, ap₂, _∙_}
 use mathlib.Core.Bool.{Bool, true, false, not, _&&_}
 use mathlib.Core.List.{List, [], _∷_}
 use native.Mathlib.Omega.{arith}
 use borrow.Author.Tests.{leb-true, ltb-true, eqb-true, le-leb, lt-leb, lt-ltb, eq-eqb, not-true}
 use lib.Dec.{eqb, leb, ltb}
-use lib.ListN.{length, take, drop, replicate, length-drop, length-take}
+use lib.ListN.{length, drop, replicate, length-drop, length-take}
 use lib.Seq.{length-take-le}
 use Rattle.pageset.specs.declared.Window.{Window}
 use Rattle.pageset.specs.declared.PageSet.{PageSet}
-use Rattle.pageset.specs.Sets.{holds, rising, windowForm, windowForms, normalForm, shown, member, zeroWindow, blank, normal}
+use Rattle.pageset.specs.Sets.{bit, maskAt, holds, rising, windowForm, windowForms, normalForm, shown, member, zeroWindow, blank, normal}
+use Rattle.pageset.specs.Says.{emptySet}
 
 -- ---- tests
 
@@ -68,14 +69,14 @@ form-test w a b c =
     and-both (ltb 0 (w .mask) && ltb (w .mask) (2 ^ 64)) (ltb (w .index) (2 ^ 26))
     (and-both (ltb 0 (w .mask)) (ltb (w .mask) (2 ^ 64)) (lt-ltb 0 (w .mask) a) (lt-ltb (w .mask) (2 ^ 64) b)) (lt-ltb (w .index) (2 ^ 26) c)
 
-pub forms-test : (lo : ℕ) (ws : List Window) → Rises lo ws → windowForms ws ≡ true
+forms-test : (lo : ℕ) (ws : List Window) → Rises lo ws → windowForms ws ≡ true
 unfolding Rises windowForms
 forms-test lo [] r = refl
 forms-test lo (w ∷ ws) r = and-both (windowForm w) (windowForms ws) (form-test w (r .2) (r .3) (r .1)) (forms-test (w .index + 1) ws (r .4))
 
 -- ---- zero windows
 
-pub blank-fact : (ws : List Window) → blank ws ≡ true → ws ≡ replicate (length ws) zeroWindow
+blank-fact : (ws : List Window) → blank ws ≡ true → ws ≡ replicate (length ws) zeroWindow
 unfolding blank
 blank-fact [] b = refl
 blank-fact (w ∷ ws) b =
@@ -114,9 +115,10 @@ module _ (s : PageSet) (e : normal s ≡ true) where
   unfolding normal
   outer = and-fst tests (normalForm (shown s)) e
 
-  inner : normalForm (shown s) ≡ true
+  -- the windows that a set in normal form shows are in normal form
+  pub shown-form : normalForm (shown s) ≡ true
   unfolding normal
-  inner = and-snd tests (normalForm (shown s)) e
+  shown-form = and-snd tests (normalForm (shown s)) e
 
   sizes : (leb (s .len) 32 && eqb (length (s .windows)) 32) ≡ true
   sizes = and-fst _ (blank (drop (s .len) (s .windows))) outer
@@ -129,7 +131,7 @@ module _ (s : PageSet) (e : normal s ≡ true) where
 
   ordered-of : ordered ≡ true
   unfolding normalForm
-  ordered-of = and-fst ordered (not (holds (shown s) 0)) inner
+  ordered-of = and-fst ordered (not (holds (shown s) 0)) shown-form
 
   pub normal-fact : Normal s
   unfolding normalForm
@@ -146,7 +148,7 @@ module _ (s : PageSet) (e : normal s ≡ true) where
             rises-fact 0 (shown s)
             (and-snd (leb (length (shown s)) 32) (rising 0 (shown s)) (and-fst (leb (length (shown s)) 32 && rising 0 (shown s)) (windowForms (shown s)) ordered-of))
             (and-snd (leb (length (shown s)) 32 && rising 0 (shown s)) (windowForms (shown s)) ordered-of);
-        no-zero = not-true (holds (shown s) 0) (and-snd ordered (not (holds (shown s) 0)) inner);
+        no-zero = not-true (holds (shown s) 0) (and-snd ordered (not (holds (shown s) 0)) shown-form);
       }
 
 pub normal-test : (s : PageSet) → Normal s → normal s ≡ true
@@ -186,3 +188,8 @@ module _ (s : PageSet) where
   but-zero h w b e =
       let l : length (shown s) ≤ 32 = omega (arith, length-take (s .len) (s .windows)) in
       rw (le-leb (s .len) 32 h, eq-eqb (length (s .windows)) 32 w, b, le-leb (length (shown s)) 32 l, and-fst (rising 0 (shown s)) (windowForms (shown s)) e, and-snd (rising 0 (shown s)) (windowForms (shown s)) e)
+
+-- the empty set is in normal form
+pub empty-normal : normal emptySet ≡ true
+unfolding normal blank normalForm rising windowForms holds bit maskAt
+empty-normal = refl

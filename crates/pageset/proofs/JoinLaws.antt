@@ -1,8 +1,8 @@
 -- What the walk over two sets makes: their pages together, their common pages, and those of the left set alone. Assumes nothing.
 use Prim.Native.Nat.{ℕ, _+_, _-_, _*_, _/_, _%_, _^_, _≤_, _<_, min}
-use mathlib.Core.Path.{_≡_, refl, sym, ap, ap₂, _∙_}
+use mathlib.Core.Path.{_≡_, sym, ap, ap₂, _∙_}
 use mathlib.Core.Logic.{_⊎_, inl, inr}
-use mathlib.Core.Bool.{Bool, true, false, not, _&&_, _||_}
+use mathlib.Core.Bool.{Bool, false, not, _&&_, _||_}
 use mathlib.Core.List.{List}
 use native.Mathlib.Nat.{lt-of-le-of-lt}
 use native.Mathlib.Omega.{arith}
@@ -41,7 +41,7 @@ not-none y = and-zero-l ((2 ^ 64 - 1) - y)
 pub not-fits : (x y : ℕ) → x < 2 ^ 64 → y < 2 ^ 64 → andNot x y < 2 ^ 64
 not-fits x y h k = lt-of-le-of-lt (and-le-l x ((2 ^ 64 - 1) - y)) h
 
-or-left : (x y : ℕ) → 0 < x → 0 < bitOr x y
+pub or-left : (x y : ℕ) → 0 < x → 0 < bitOr x y
 or-left x y h = omega (arith, or-add-and x y, and-le-r x y)
 
 or-right : (x y : ℕ) → 0 < y → 0 < bitOr x y
@@ -49,7 +49,7 @@ or-right x y h = omega (arith, or-add-and x y, and-le-l x y)
 
 module _ (a b : PageSet) (ta : Normal a) (tb : Normal b) where
   -- while a window is left on one side, the lower of the two next indexes is that of a window
-  pub next-index : (i k : ℕ) (x y : Window) → x ≡ headOf (drop i (shown a)) → y ≡ headOf (drop k (shown b)) → (i < a .len) ⊎ (k < b .len) → min (x .index) (y .index) < 67108864
+  next-index : (i k : ℕ) (x y : Window) → x ≡ headOf (drop i (shown a)) → y ≡ headOf (drop k (shown b)) → (i < a .len) ⊎ (k < b .len) → min (x .index) (y .index) < 67108864
   next-index i k x y ex ey (inl h) = omega (arith, real a ta i h x ex)
   next-index i k x y ex ey (inr h) = omega (arith, real b tb k h y ey)
 

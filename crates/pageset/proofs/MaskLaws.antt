@@ -1,8 +1,8 @@
 -- A walk over a set's windows that keeps of each the bits of a mask, g q at window q, and pushes what is left to another set. Assumes nothing.
-use Prim.Native.Nat.{ℕ, zero, suc, _+_, _-_, _*_, _/_, _%_, _^_, _≤_, _<_}
-use mathlib.Core.Path.{_≡_, refl, sym, ap, ap₂, _∙_}
+use Prim.Native.Nat.{ℕ, _+_, _/_, _%_, _^_, _≤_, _<_}
+use mathlib.Core.Path.{_≡_, refl, sym, ap, _∙_}
 use mathlib.Core.Logic.{_⊎_, inl, inr}
-use mathlib.Core.Bool.{Bool, true, false, _&&_}
+use mathlib.Core.Bool.{Bool, _&&_}
 use mathlib.Core.List.{List, [], _∷_, _++_, append-assoc, append-nil}
 use native.Mathlib.Omega.{arith}
 use native.Mathlib.Nat.{lt-of-le-of-lt}
@@ -24,22 +24,22 @@ module _ (f : ℕ → ℕ → ℕ) where
   remask [] = []
   remask (w ∷ ws) = one (w .index) (f (w .index) (w .mask)) ++ remask ws
 
-  pub remask-nil : remask [] ≡ []
+  remask-nil : remask [] ≡ []
   unfolding remask
   remask-nil = refl
 
-  pub remask-cons : (w : Window) (ws : List Window) → remask (w ∷ ws) ≡ one (w .index) (f (w .index) (w .mask)) ++ remask ws
+  remask-cons : (w : Window) (ws : List Window) → remask (w ∷ ws) ≡ one (w .index) (f (w .index) (w .mask)) ++ remask ws
   unfolding remask
   remask-cons w ws = refl
 
   module _ (small : (q m : ℕ) → m < 2 ^ 64 → f q m < 2 ^ 64) where
-    pub remask-rises : (lo : ℕ) (ws : List Window) → Rises lo ws → Rises lo (remask ws)
+    remask-rises : (lo : ℕ) (ws : List Window) → Rises lo ws → Rises lo (remask ws)
     unfolding remask Rises
     remask-rises lo [] r = tt
     remask-rises lo (w ∷ ws) r = one-rises (w .index) _ lo (remask ws) (r .0) (r .1) (small (w .index) (w .mask) (r .3)) (remask-rises (w .index + 1) ws (r .4))
 
     module _ (zeroWindow-of-zeroWindow : (q : ℕ) → f q 0 ≡ 0) where
-      pub remask-mask : (lo : ℕ) (ws : List Window) → Rises lo ws → (q : ℕ) → maskAt (remask ws) q ≡ f q (maskAt ws q)
+      remask-mask : (lo : ℕ) (ws : List Window) → Rises lo ws → (q : ℕ) → maskAt (remask ws) q ≡ f q (maskAt ws q)
       unfolding remask Rises
       remask-mask lo [] r q = mask-nil q ∙ sym (ap (f q) (mask-nil q) ∙ zeroWindow-of-zeroWindow q)
       remask-mask lo (w ∷ ws) r q = go (eq-or (w .index) q) (remask-mask (w .index + 1) ws (r .4))
@@ -103,7 +103,7 @@ module _ (g : ℕ → ℕ) where
     small : (q m : ℕ) → m < 2 ^ 64 → cutBy q m < 2 ^ 64
     small q m l = lt-of-le-of-lt (and-le-l m (g q)) l
 
-    pub walk-mask : (q : ℕ) → maskAt (shown out) q ≡ bitAnd (maskAt (shown s) q) (g q)
+    walk-mask : (q : ℕ) → maskAt (shown out) q ≡ bitAnd (maskAt (shown s) q) (g q)
     walk-mask q =
         ap (λ (x : List Window). maskAt x q) walk-end
         ∙ remask-mask cutBy small (λ k. and-zero-l (g k)) 0 (shown s) (t .rising) q

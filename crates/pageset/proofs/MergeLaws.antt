@@ -1,6 +1,6 @@
 -- Two sets walked together, the lower index first, into a third whose mask at each index is f of theirs. Up to a bound the third set has all its
 -- masks; from the bound on, what is left of the two is all that they have there. Assumes nothing.
-use Prim.Native.Nat.{ℕ, zero, suc, _+_, _-_, _*_, _/_, _%_, _^_, _≤_, _<_, min}
+use Prim.Native.Nat.{ℕ, _+_, _^_, _≤_, _<_, min}
 use mathlib.Core.Path.{_≡_, refl, sym, ap, ap₂, _∙_, subst}
 use mathlib.Core.Logic.{_⊎_, inl, inr}
 use mathlib.Core.Bool.{Bool, true, false, cond}
@@ -23,7 +23,7 @@ use Rattle.pageset.proofs.SpanLaws.{Span, span-nil, span-join, span-pus
 -- ---- one list's part in a turn
 
 -- one window goes if the next one has index q
-abbrev pub taken : Window → ℕ → ℕ
+abbrev taken : Window → ℕ → ℕ
 taken x q = cond (eqb (x .index) q) 1 0
 
 -- at q, which is not above the next index, the list l has the next window's mask or none, and what is left stands above q

@@ -17,7 +17,7 @@ use Rattle.pageset.specs.Windows.{upTo, spanMask, windowOf}
 use Rattle.pageset.specs.Rules.{within}
 use Rattle.pageset.proofs.BitLaws.{bit-ones, bit-and, bit-not, bit-none}
 use Rattle.pageset.proofs.FormLaws.{Rises, Tidy, Normal, shown-length, clash}
-use Rattle.pageset.proofs.WindowLaws.{lt-or, eq-or, mask-nil, mask-same, mask-other}
+use Rattle.pageset.proofs.WindowLaws.{lt-or, eq-or, mask-nil, mask-other}
 use Rattle.pageset.proofs.WalkLaws.{one, made, step, made-empty, push-tidy, push-shown}
 use Rattle.pageset.proofs.SpanLaws.{one-length, Span, span-nil, span-push, span-rises, span-past, push-other, push-same, longer}
 
@@ -27,24 +27,19 @@ pub up-to-is : (n q k : ℕ) → min 64 (n + 1 - q * 64) ≡ k → 2 ^ k - 1 ≡
 unfolding upTo
 up-to-is n q k e = ap (λ (x : ℕ). 2 ^ x - 1) (sym e)
 
-pub up-to-lt : (n q : ℕ) → upTo n q < 2 ^ 64
+up-to-lt : (n q : ℕ) → upTo n q < 2 ^ 64
 unfolding upTo
 up-to-lt n q =
     let l : min 64 (n + 1 - q * 64) ≤ 64 = omega arith in
     omega (arith, pow-mono l, pow-pos (min 64 (n + 1 - q * 64)))
 
-pub up-to-bit : (n q b : ℕ) → b < 64 → bit (upTo n q) b ≡ leb (q * 64 + b) n
+up-to-bit : (n q b : ℕ) → b < 64 → bit (upTo n q) b ≡ leb (q * 64 + b) n
 unfolding upTo
 up-to-bit n q b h = bit-ones (min 64 (n + 1 - q * 64)) b ∙ go (lt-or n (q * 64 + b))
   where
     go : (n < q * 64 + b) ⊎ (q * 64 + b ≤ n) → ltb b (min 64 (n + 1 - q * 64)) ≡ leb (q * 64 + b) n
     go (inl l) = le-ltb b _ (omega arith) ∙ sym (lt-leb _ _ l)
     go (inr l) = lt-ltb b _ (omega arith) ∙ sym (le-leb _ _ l)
-
-pub up-to-page : (n p : ℕ) → bit (upTo n (p / 64)) (p % 64) ≡ leb p n
-up-to-page n p =
-    let e : p / 64 * 64 + p % 64 ≡ p = omega arith in
-    up-to-bit n (p / 64) (p % 64) (omega arith) ∙ ap (λ (x : ℕ). leb x n) e
 
 -- ---- the windows of a range
 
@@ -73,7 +68,7 @@ module _ (lo hi : ℕ) where
         ∙ ap₂ _&&_ (up-to-bit hi q k l) (bit-not 64 k (upTo (lo - 1) q) l (up-to-lt (lo - 1) q) ∙ ap not (up-to-bit (lo - 1) q k l))
         ∙ swap (q * 64 + k) h
 
-    pub span-page : (p : ℕ) → bit (spanMask lo hi (p / 64)) (p % 64) ≡ within lo hi p
+    span-page : (p : ℕ) → bit (spanMask lo hi (p / 64)) (p % 64) ≡ within lo hi p
     span-page p =
         let e : p / 64 * 64 + p % 64 ≡ p = omega arith in
         span-bit (p / 64) (p % 64) (omega arith) ∙ ap (within lo hi) e

@@ -18,7 +18,7 @@ unfolding one
 one-length q zero = omega arith
 one-length q (suc m) = omega arith
 
-pub rises-from : (lo lo′ : ℕ) (ws : List Window) → lo ≤ lo′ → Rises lo′ ws → Rises lo ws
+rises-from : (lo lo′ : ℕ) (ws : List Window) → lo ≤ lo′ → Rises lo′ ws → Rises lo ws
 unfolding Rises
 rises-from lo lo′ [] h r = tt
 rises-from lo lo′ (w ∷ ws) h r = (omega (arith, r .0), r .1, r .2, r .3, r .4)

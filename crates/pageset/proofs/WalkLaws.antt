@@ -1,18 +1,18 @@
 -- How a loop walks a set's windows and fills another's: the windows that are left, one window more at the end, and that a set in normal form is
 -- known by its pages. Assumes nothing.
-use Prim.Native.Nat.{ℕ, zero, suc, _+_, _-_, _*_, _/_, _%_, _^_, _≤_, _<_, min}
+use Prim.Native.Nat.{ℕ, zero, suc, _+_, _-_, _*_, _/_, _%_, _≤_, _<_, min}
 use mathlib.Core.Path.{_≡_, refl, sym, ap, ap₂, _∙_}
 use mathlib.Core.Logic.{_⊎_, inl, inr}
-use mathlib.Core.Bool.{Bool, true, false, cond}
+use mathlib.Core.Bool.{cond}
 use mathlib.Core.List.{List, [], _∷_, _++_, append-nil}
 use native.Mathlib.Omega.{arith}
 use native.Mathlib.Numerals.{add-one}
 use mir.Val.{Val}
 use denote.Laws.{Is}
 use denote.Struct.Declared.{row}
-use borrow.Author.Tests.{eq-eqb, ne-eqb, lt-ltb, le-ltb}
+use borrow.Author.Tests.{ne-eqb, lt-ltb, le-ltb}
 use lib.Dec.{eqb, ltb}
-use lib.ListN.{length-map, length, take, drop, set, getD, replicate, length-take, length-set, getD-replicate, take-append-drop, drop-of-length-le}
+use lib.ListN.{length-map, length, take, drop, set, getD, replicate, length-set, getD-replicate, take-append-drop, drop-of-length-le}
 use lib.Seq.{length-take-le, drop-cons, getD-take, getD-drop, take-suc-set, drop-set-lt, drop-drop, set-getD}
 use Rattle.pageset.proofs.PageSet.{the-type}
 use Rattle.pageset.specs.declared.Window.{Window}
@@ -21,7 +21,7 @@ use Rattle.pageset.specs.Sets.{bit, maskAt, holds, shown, member, zeroWi
 use Rattle.pageset.specs.Windows.{pastAll, windowOf}
 use Rattle.pageset.proofs.BitLaws.{bit-ext}
 use Rattle.pageset.proofs.FormLaws.{Rises, Tidy, Normal, shown-length}
-use Rattle.pageset.proofs.WindowLaws.{eq-or, lt-or, mask-nil, mask-same, mask-other, mask-lt, known}
+use Rattle.pageset.proofs.WindowLaws.{lt-or, mask-nil, mask-same, mask-other, mask-lt, known}
 
 -- ---- what the type tells
 
@@ -162,7 +162,7 @@ pub head-cons : (w : Window) (ws : List Window) → headOf (w ∷ ws) ≡ w
 unfolding headOf
 head-cons w ws = refl
 
-pub head-nil : headOf [] ≡ pastAll
+head-nil : headOf [] ≡ pastAll
 unfolding headOf
 head-nil = refl
 

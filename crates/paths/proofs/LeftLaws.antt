@@ -1,10 +1,10 @@
 -- What is left of a path, in code: an array, a place and a number of ranges. A range that has no commit is passed over; of the first that has one, the run's first row is the next commit, and
 -- with its end lowered below that commit the ranges left give the rest.
-use Prim.Native.Nat.{ℕ, zero, suc, _+_, _-_, _*_, min, _<_, _≤_, Ordering, Ordering·lt}
+use Prim.Native.Nat.{ℕ, zero, suc, _+_, _-_, _*_, min, _<_, _≤_}
 use mathlib.Core.Path.{_≡_, refl, sym, ap, ap₂, _∙_}
 use mathlib.Core.List.{List, [], _∷_, _++_, map, append-nil}
 use mathlib.Core.Option.{Option, none, some}
-use mathlib.Core.Bool.{Bool, true, false, cond, not, _&&_}
+use mathlib.Core.Bool.{Bool, true, false, cond, not}
 use native.Mathlib.Omega.{arith}
 use mir.Val.{Val}
 use denote.Laws.{Is}
@@ -26,13 +26,13 @@ use Rattle.rules.proofs.TableLaws.{cases, clash, missing, options, and-fst, and
 use Rattle.table.specs.Table.{countOf}
 use Rattle.layout.specs.Tables.{commitsIn, commitsOk}
 use Rattle.rows.specs.Lookups.{stretch}
-use Rattle.rows.proofs.Finds.{stretch-next, stretch-end}
+use Rattle.rows.proofs.Finds.{map-drop, stretch-next, stretch-end}
 use Rattle.rows.proofs.Rows.{formed-up, formed-rules, length-rows}
 use Rattle.rows.proofs.Checks.{row-form}
 use Rattle.rows.proofs.Tables.{commits}
 use Rattle.volume.specs.Snapshots.{rangeSays, noRange}
 use Rattle.volume.specs.declared.snapshot.LogRange.{LogRange}
-use Rattle.commits.specs.Places.{commitAt, PlaceOf, RunOfRange, placeSays}
+use Rattle.commits.specs.Places.{commitAt, PlaceOf, RunOfRange}
 use Rattle.commits.specs.declared.Place.{Place}
 use Rattle.commits.specs.declared.Place.the-variants as Place
 use Rattle.paths.specs.declared.Left.{Left}
@@ -48,19 +48,19 @@ places l vs g = sym (length-map (l .path) _) ∙ g .1 .1 .0 .1 .0 .1
 
 module _ {A : Type 0} (f : A → Bool) where
   -- where none passes a test there is no first
-  pub none-first : (l : List A) → those f l ≡ [] → first f l ≡ none
+  none-first : (l : List A) → those f l ≡ [] → first f l ≡ none
   unfolding those first
   none-first [] e = refl
   none-first (x ∷ xs) e = cases (f x) (λ q. absurd (omega (arith, ap (length {A = A}) (rw q at e)))) (λ q. rw q (none-first xs (rw q at e)))
 
   -- of those that pass, the head is the first
-  pub head-first : (l : List A) (x : A) (xs : List A) → those f l ≡ x ∷ xs → first f l ≡ some x
+  head-first : (l : List A) (x : A) (xs : List A) → those f l ≡ x ∷ xs → first f l ≡ some x
   unfolding those first
   head-first [] x xs e = absurd (omega (arith, ap (length {A = A}) e))
   head-first (y ∷ ys) x xs e = cases (f y) (λ q. let s : y ≡ x = cc in rw (q, s) refl) (λ q. rw q (head-first ys x xs (rw q at e)))
 
   -- and back
-  pub first-head : (l : List A) → first f l ≡ none → those f l ≡ []
+  first-head : (l : List A) → first f l ≡ none → those f l ≡ []
   unfolding those first
   first-head [] e = refl
   first-head (y ∷ ys) e = cases (f y) (λ q. absurd (missing (rw q at e) refl)) (λ q. rw q (first-head ys (rw q at e)))
@@ -70,7 +70,7 @@ module _ (t : List ℕ) (r : Range) (from to : ℕ) (run : RunOfRange t r from t
   first-missing h = record { says = sym (none-first (inRange r) (commitsIn t .rows) (sym (run .commits) ∙ stretch-end from to (commitsIn t .rows) h)); inside = tt }
 
   -- the run's first row, and those after it
-  pub run-rows : from < to → those (inRange r) (commitsIn t .rows) ≡ commitAt t from ∷ stretch (from + 1) to (commitsIn t .rows)
+  run-rows : from < to → those (inRange r) (commitsIn t .rows) ≡ commitAt t from ∷ stretch (from + 1) to (commitsIn t .rows)
   run-rows h = sym (run .commits) ∙ stretch-next commits t from to h (run .places .inside .1)
 
   pub first-there : from < to → PlaceOf t (first (inRange r) (commitsIn t .rows)) (Place.At from)
@@ -101,13 +101,13 @@ module _ (cs : Table Commit) where
   leading-here r rs ps c e n = ap (leading cs) e ∙ ap (λ (o : Option Commit). cond (isNone o) (suc (leading cs rs)) 0) (sym n)
 
   -- what they give is nothing
-  pub leading-gives : (ps : List Range) → pathCommits cs ps ≡ pathCommits cs (drop (leading cs ps) ps)
+  leading-gives : (ps : List Range) → pathCommits cs ps ≡ pathCommits cs (drop (leading cs ps) ps)
   leading-gives [] = refl
   leading-gives (r ∷ rs) =
       options (first (inRange r) (cs .rows)) (λ n. rw (n, first-head (inRange r) (cs .rows) n) (leading-gives rs)) (λ c n. rw n refl)
 
   -- where there is a commit, the first range after them has one
-  pub leading-lt : (ps : List Range) → 0 < length (pathCommits cs ps) → leading cs ps < length ps
+  leading-lt : (ps : List Range) → 0 < length (pathCommits cs ps) → leading cs ps < length ps
   leading-lt [] h = absurd (omega (arith, h))
   leading-lt (r ∷ rs) h =
       options (first (inRange r) (cs .rows))
@@ -122,11 +122,6 @@ module _ {A : Type 0} where
   getD-any [] i d e h = absurd (omega (arith, h))
   getD-any (x ∷ xs) zero d e h = refl
   getD-any (x ∷ xs) (suc i) d e h = getD-any xs i d e (omega (arith, h))
-
-  map-drop : {B : Type 0} (f : A → B) (n : ℕ) (l : List A) → drop n (map f l) ≡ map f (drop n l)
-  map-drop f zero l = refl
-  map-drop f (suc n) [] = refl
-  map-drop f (suc n) (x ∷ xs) = map-drop f n xs
 
   -- the head of those that pass a test passes it
   head-passes : (f : A → Bool) (l : List A) (x : A) (xs : List A) → those f l ≡ x ∷ xs → f x ≡ true
@@ -193,12 +188,12 @@ module _ (t : List ℕ) (ok : commitsOk t ≡ true) (l : Left) (k : length (l .p
     -- the ranges from it on
     on : drop (leading (commitsIn t) (leftSays l)) (leftSays l) ≡ rangeSays (getD (l .path) i d) ∷ map rangeSays (drop (i + 1) (take (l .len) (l .path)))
     on =
-        map-drop rangeSays (leading (commitsIn t) (leftSays l)) (drop (l .at) (take (l .len) (l .path)))
+        sym (map-drop rangeSays (leading (commitsIn t) (leftSays l)) (drop (l .at) (take (l .len) (l .path))))
         ∙ ap (map rangeSays) (drop-drop (leading (commitsIn t) (leftSays l)) (l .at) (take (l .len) (l .path)) ∙ ap (λ (n : ℕ). drop n (take (l .len) (l .path))) (sym e))
         ∙ left-step (l .path) (l .len) i d (next-at i e) (omega (arith, k, is, next-at i e))
 
     module _ (from to : ℕ) (run : RunOfRange t (rangeSays (getD (l .path) i d)) from to) where
-      pub has-run : from < to
+      has-run : from < to
       has-run =
           cases (leb to from)
           (λ q. let m = first-missing t (rangeSays (getD (l .path) i d)) from to run (leb-true to from q) in
@@ -239,7 +234,7 @@ rows-small : {R : Type 0} (t : Table R) → fits t ≡ true → length (t .rows)
 unfolding fits
 rows-small t e = omega (arith, leb-true (length (t .rows)) (min (t .room) 65535) e)
 
-pub path-size : (t : List ℕ) → commitsOk t ≡ true → (ps : List Range) → length (pathCommits (commitsIn t) ps) ≤ 65535 * length ps
+path-size : (t : List ℕ) → commitsOk t ≡ true → (ps : List Range) → length (pathCommits (commitsIn t) ps) ≤ 65535 * length ps
 path-size t ok [] = omega arith
 path-size t ok (r ∷ rs) =
     let a = length-append (those (inRange r) (commitsIn t .rows)) (pathCommits (commitsIn t) rs) in

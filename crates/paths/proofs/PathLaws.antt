@@ -1,25 +1,25 @@
 -- The commits of a path, one at a time. In a table whose keys rise the first commit of a range has its highest LSN, so those after it are the commits of the same range up to
 -- below it (`those-next`). A commit of a log that no range names changes nothing of what a path gives (`path-other`); ranges of a log without commits give nothing (`path-without`).
-use Prim.Native.Nat.{ℕ, _-_, _<_, _≤_, Ordering, Ordering·lt, Ordering·eq, Ordering·gt}
+use Prim.Native.Nat.{_<_}
 use mathlib.Core.Path.{_≡_, refl, sym, ap, _∙_}
-use mathlib.Core.List.{List, [], _∷_, _++_}
-use mathlib.Core.Option.{Option, none}
-use mathlib.Core.Bool.{Bool, true, false, cond, not, _&&_}
+use mathlib.Core.List.{List, [], _∷_}
+use mathlib.Core.Option.{none}
+use mathlib.Core.Bool.{Bool, true, false, cond, not}
 use native.Mathlib.Omega.{arith}
 use lib.ListN.{length}
 use Rattle.core.specs.Orders.{logLsn, isLt}
 use Rattle.rules.specs.Lists.{first, those, all}
 use Rattle.rules.specs.Records.{Id, Commit, Range, LogLsn, commitKey}
-use Rattle.rules.specs.Tables.{Table, inOrder, put, store, placed, sameId, latest}
+use Rattle.rules.specs.Tables.{Table, inOrder, put, store, sameId, latest}
 use Rattle.rules.specs.Walk.{inRange, pathCommits}
 use Rattle.core.proofs.OrderLaws.{logLsn-lawful}
-use Rattle.rules.proofs.TableLaws.{cases, clash, missing, lt-of, eq-of, and-fst, and-snd, orders, all-at}
-use Rattle.rules.proofs.Facts.{same-id, id-same, falls, InRange, in-range, range-in}
+use Rattle.rules.proofs.TableLaws.{cases, clash, missing, lt-of, and-fst, and-snd, orders}
+use Rattle.rules.proofs.Facts.{same-id, id-same, falls, in-range, range-in}
 use Rattle.paths.specs.Left.{lowered, otherLog}
 
 module _ {A : Type 0} where
   -- two tests that agree wherever a third holds
-  pub those-agree : (f g h : A → Bool) → ((x : A) → h x ≡ true → f x ≡ g x) → (l : List A) → all h l ≡ true → those f l ≡ those g l
+  those-agree : (f g h : A → Bool) → ((x : A) → h x ≡ true → f x ≡ g x) → (l : List A) → all h l ≡ true → those f l ≡ those g l
   unfolding those all
   those-agree f g h k [] a = refl
   those-agree f g h k (x ∷ xs) a =

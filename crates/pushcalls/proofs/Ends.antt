@@ -11,8 +11,9 @@ use lib.Dec.{eqb}
 use lib.ListN.{length}
 use borrow.Author.Tests.{eq-eqb, ne-eqb, eqb-true}
 use Rattle.octets.specs.Bytes.{part}
-use Rattle.octets.proofs.Places.{part-all, length-part}
+use Rattle.octets.proofs.Places.{part-whole, length-part}
 use Rattle.core.specs.Answers.{Answer, refused, done, code, ask, need, _>>_, _>>=_}
+use Rattle.core.proofs.AskLaws.{refuses, stops}
 use Rattle.core.specs.Hashes.{zeroHash}
 use Rattle.core.specs.Orders.{bytes}
 use Rattle.core.proofs.OrderLaws.{bytes-lawful}
@@ -72,7 +73,7 @@ module _ (t cs ks es : List ℕ) where
     pub logs-ok : (commitsOk cs ≡ true) × (checkpointsOk ks ≡ true) × (indexOk es ≡ true)
     logs-ok = each-ok cs ks es all-logs
 
-    pub formed : (volumesFormed (volumesIn t) && logsFormed (logsIn cs ks es)) ≡ true
+    formed : (volumesFormed (volumesIn t) && logsFormed (logsIn cs ks es)) ≡ true
     formed = and-both (formed-rules volumes t volumes-ok) (logs-formed cs ks es all-logs)
 
 -- ---- a commit that is given as bytes
@@ -87,7 +88,7 @@ module _ (b : List ℕ) where
 
   module _ (n : length b ≡ 722) where
     all-of : part 0 722 b ≡ b
-    all-of = ap (λ (m : ℕ). part 0 m b) (sym n) ∙ part-all b
+    all-of = part-whole 722 b n
 
     by-lsns : (x : Bool) → commitLsns (commitIn (part 0 722 b)) ≡ x → commitAsked b ≡ asks true x (inForm commitBytes commitForm b)
     by-lsns x e =
@@ -110,11 +111,6 @@ module _ (b : List ℕ) where
       (λ y. let q : _≡_ {A = ℕ} 1 0 = rw (x, y) at h in absurd (omega arith)))
       (λ x. let q : _≡_ {A = ℕ} 3 0 = rw x at h in absurd (omega arith))
 
--- a number other than 0 is a refusal
-pub refuses : {A : Type 0} (a : Answer A) (n : ℕ) → n ≡ code a → (n ≡ 0 → ⊥) → a ≡ refused n
-refuses (refused m) n e z = ap refused (sym e)
-refuses (done u) n e z = absurd (z e)
-
 -- ---- success up to its volume
 
 module _ (t cs ks es : List ℕ) (ok : pushOk t cs ks es ≡ true) (vid : Id) (b : List ℕ) where
@@ -124,12 +120,9 @@ module _ (t cs ks es : List ℕ) (ok : pushOk t cs ks es ≡ true) (vid : Id) (b
   -- 1, 3
   pub bad-commit : (n : ℕ) → n ≡ code (commitAsked b) → (n ≡ 0 → ⊥) → answer ≡ refused n
   unfolding successIn
-  bad-commit n e z = ap (λ (a : Answer (Unit {0})). a >> success (volumesIn t) (logsIn cs ks es) vid (commitIn b)) (refuses (commitAsked b) n e z)
+  bad-commit n e z = stops (commitAsked b) (success (volumesIn t) (logsIn cs ks es) vid (commitIn b)) n e z
 
   module _ (good : code (commitAsked b) ≡ 0) where
-    abbrev asks-in : Bool → Bool → Bool → Answer (Table Volume × Logs)
-    asks-in x y z = ask x 3 >> (ask y 1 >> ask z 3) >> success (volumesIn t) (logsIn cs ks es) vid (commitIn b)
-
     abbrev rest : Bool → Bool → Bool → Option Volume → Answer (Table Volume × Logs)
     rest x y z o = ask x 20 >> (ask y 1 >> (ask z 3 >> (need o 4 >>= (λ v. successFound (volumesIn t) (logsIn cs ks es) v (commitIn b)))))
 
@@ -153,7 +146,7 @@ module _ (t cs ks es : List ℕ) (ok : pushOk t cs ks es ≡ true) (vid : Id) (b
     success-nowhere e = past none e
 
     -- else what the volume decides
-    pub success-at : (v : Volume) → getVolume (volumesIn t) vid ≡ some v → answer ≡ successFound (volumesIn t) (logsIn cs ks es) v (commitIn b)
+    success-at : (v : Volume) → getVolume (volumesIn t) vid ≡ some v → answer ≡ successFound (volumesIn t) (logsIn cs ks es) v (commitIn b)
     success-at v e = past (some v) e
 
 -- ---- success on the volume that was found
@@ -233,14 +226,14 @@ module _ (t : List ℕ) (vid : Id) (ok : volumesOk t ≡ true) (o : Spot) (i : �
 
 module _ (t : List ℕ) (i : ℕ) where
   -- there is one volume at a place, with one pending commit
-  pub pushed-at : (P : Table Volume → Type 0) (v : Volume) (p : Pending) → nth i (volumesIn t .rows) ≡ some v → v .pending ≡ some p
+  pushed-at : (P : Table Volume → Type 0) (v : Volume) (p : Pending) → nth i (volumesIn t .rows) ≡ some v → v .pending ≡ some p
       → P (store volumeKey bytes (pushedVolume v p) (volumesIn t)) → PushedAt t i P
   pushed-at P v p e h q w r e′ h′ =
       let s : v ≡ w = option-same (sym e ∙ e′) in
       let z : p ≡ r = option-same (sym h ∙ ap (λ (a : Volume). a .pending) s ∙ h′) in
       subst (λ (a : Volume). P (store volumeKey bytes a (volumesIn t))) (ap₂ pushedVolume s z) q
 
-  pub dropped-at : (P : Table Volume → Type 0) (v : Volume) → nth i (volumesIn t .rows) ≡ some v → P (store volumeKey bytes (withPending v none) (volumesIn t)) → DroppedAt t i P
+  dropped-at : (P : Table Volume → Type 0) (v : Volume) → nth i (volumesIn t .rows) ≡ some v → P (store volumeKey bytes (withPending v none) (volumesIn t)) → DroppedAt t i P
   dropped-at P v e q w e′ = subst (λ (a : Volume). P (store volumeKey bytes (withPending a none) (volumesIn t))) (option-same (sym e ∙ e′)) q
 
   -- the bytes that u is, where w is the volume that was stored

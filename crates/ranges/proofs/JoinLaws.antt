@@ -9,7 +9,6 @@ use mathlib.Core.List.{List, [], _∷_, _++_}
 use native.Mathlib.Omega.{arith}
 use borrow.Author.Tests.{le-leb, lt-leb, eq-eqb, ne-eqb}
 use lib.Dec.{leb}
-use lib.Bits.{bitOr, or-add-and, and-le-r}
 use lib.ListN.{length, replicate, length-append, length-replicate}
 use lib.Seq.{take-at, drop-at}
 use Rattle.core.specs.Answers.{refused, done}
@@ -18,8 +17,8 @@ use Rattle.pageset.specs.declared.PageSet.{PageSet}
 use Rattle.pageset.specs.declared.SetAnswer.{SetAnswer}
 use Rattle.pageset.specs.Sets.{holds, rising, shown, member, zeroWindow, normal}
 use Rattle.pageset.specs.Says.{IsSet, GivesOr22, Over32}
-use Rattle.pageset.proofs.FormLaws.{Rises, rising-test, Normal, normal-fact, normal-test, shown-length}
-use Rattle.pageset.proofs.JoinLaws.{or-fits}
+use Rattle.pageset.proofs.FormLaws.{Rises, rising-test, Normal, normal-fact, normal-test, shown-length, shown-form}
+use Rattle.pageset.proofs.JoinLaws.{or-fits, or-left}
 use Rattle.pageset.proofs.WindowLaws.{lt-or}
 use Rattle.core.proofs.OrderLaws.{lt-up, up-lawful}
 use Rattle.rules.specs.Records.{Pages}
@@ -38,13 +37,10 @@ use Rattle.commit.specs.declared.SegmentRange.{SegmentRange}
 use Rattle.commit.specs.declared.RangeAnswer.{RangeAnswer}
 use Rattle.commit.specs.Says.{rangeSays, noRange, foundRange, Tells}
 use Rattle.ranges.specs.Rules.{bothOf, joinRule}
-use Rattle.commit.proofs.SetLaws.{form-of, one-list}
+use Rattle.commit.proofs.SetLaws.{one-list}
 use Rattle.commit.proofs.RecordLaws.{tells-found}
 
 -- ---- the windows of a union are in order
-
-or-some : (x y : ℕ) → 0 < x → 0 < bitOr x y
-or-some x y h = omega (arith, or-add-and x y, and-le-r x y)
 
 with-rises : (lo : ℕ) (w : Window) (s : Pages) → lo ≤ w .index → w .index < 67108864 → 0 < w .mask → w .mask < 2 ^ 64 → Rises lo s → Rises lo (withWindow w s)
 unfolding Rises withWindow
@@ -52,7 +48,7 @@ with-rises lo w [] h i k m r = (h, i, k, m, tt)
 with-rises lo w (v ∷ s) h i k m r =
     orders (compare (w .index) (v .index))
     (λ q. rw q (h, i, k, m, (omega (arith, lt-up (w .index) (v .index) q), r .1, r .2, r .3, r .4)))
-    (λ q. rw q (r .0, r .1, or-some (w .mask) (v .mask) k, or-fits (w .mask) (v .mask) m (r .3), r .4))
+    (λ q. rw q (r .0, r .1, or-left (w .mask) (v .mask) k, or-fits (w .mask) (v .mask) m (r .3), r .4))
     (λ q. rw q (r .0, r .1, r .2, r .3, with-rises (v .index + 1) w s (omega (arith, lt-up (v .index) (w .index) (up-lawful .turn (w .index) (v .index) q))) i k m (r .4)))
 
 union-rises : (lo : ℕ) (s u : Pages) → Rises lo s → Rises 0 u → Rises 0 (union s u)
@@ -92,13 +88,13 @@ module _ (a b : PageSet) (ea : normal a ≡ true) (eb : normal b ≡ true) where
   both-pages p = holds-union 0 (shown a) (shown b) p (rising-test 0 (shown a) (normal-fact a ea .rising)) (rising-test 0 (shown b) (normal-fact b eb .rising))
 
   module _ (r : PageSet) (h : IsSet (λ p. member a p || member b p) r) where
-    pub union-is : shown r ≡ union (shown a) (shown b)
+    union-is : shown r ≡ union (shown a) (shown b)
     union-is = one-list (shown r) both (normal-fact r (h .normal) .rising) both-rises (λ p. h .pages p ∙ sym (both-pages p))
 
-    pub union-few : length (union (shown a) (shown b)) ≤ 32
+    union-few : length (union (shown a) (shown b)) ≤ 32
     union-few = let t = normal-fact r (h .normal) .tidy in omega (arith, ap length union-is, shown-length r t, t .short)
 
-  pub union-many : Over32 (λ p. member a p || member b p) → 32 < length (union (shown a) (shown b))
+  union-many : Over32 (λ p. member a p || member b p) → 32 < length (union (shown a) (shown b))
   union-many over =
       ⊎-elim (λ k. k)
       (λ k. absurd (over (held both) (record {
@@ -154,7 +150,7 @@ module _ (a b : SegmentRange) (r : RangeAnswer) where
     module _ (ea : normal (a .pages) ≡ true) (eb : normal (b .pages) ≡ true) where
       rule-touch : joinedPart (touching (rangeSays a) (rangeSays b)) ≡ joinRule a b
       unfolding joinRule join
-      rule-touch = rw (order-test, and-both _ _ ea eb, and-both _ _ (form-of (a .pages) ea) (form-of (b .pages) eb))
+      rule-touch = rw (order-test, and-both _ _ ea eb, and-both _ _ (shown-form (a .pages) ea) (shown-form (b .pages) eb))
 
       tells : (o : Option Part) → o ≡ touching (rangeSays a) (rangeSays b) → Tells r (joinedPart o) → Tells r (joinRule a b)
       tells o q h = rw (← rule-touch, ← q) h

@@ -1,12 +1,12 @@
 -- One law for each form that a contract has: what it says of a refusal is that every lent byte is as found.
 use Prim.Native.Nat.{ℕ}
-use mathlib.Core.Path.{_≡_, refl, sym, ap, _∙_}
+use mathlib.Core.Path.{_≡_, refl, ap, _∙_}
 use mathlib.Core.List.{List}
 use mathlib.Core.Logic.{⊎-elim}
 use mathlib.Core.Option.{Option, none, some}
-use mathlib.Core.Bool.{Bool, true, false, cond}
+use mathlib.Core.Bool.{Bool}
 use lib.Dec.{eqb}
-use Rattle.core.specs.Answers.{Answer, refused, done, code, _>>=_}
+use Rattle.core.specs.Answers.{Answer, refused, done, code}
 use Rattle.rules.specs.Records.{Id, Tag, Volume}
 use Rattle.rules.specs.Tables.{Table}
 use Rattle.rules.specs.Write.{Logs}
@@ -16,7 +16,7 @@ use Rattle.layout.specs.Values.{setBytes}
 use Rattle.layout.specs.Records.{volumeBytes, tagBytes, commitBytes, checkpointBytes, entryBytes, presentBytes}
 use Rattle.layout.specs.Lent.{after, sized}
 use Rattle.arguments.specs.declared.Reply.{Reply}
-use Rattle.arguments.specs.Replies.{none-under, given, value, valueOr, numberedReply}
+use Rattle.arguments.specs.Replies.{value, valueOr, numberedReply}
 use Rattle.arguments.specs.Sets.{SetLeft, SetLeftOr22, LeavesSet, LeavesSetOr22, LeavesCut}
 use Rattle.resultlists.specs.Lists.{listLeft}
 use Rattle.tagcalls.specs.Says.{earlier}
@@ -83,7 +83,7 @@ pub record Refuses {A : Type 0} (a : Answer A) (r : Reply) : Type 0 where
   pub by : (r .code ≡ 0 → ⊥) → (n : ℕ) × (a ≡ refused n)
   pub no-answer : (r .code ≡ 0 → ⊥) → r .found ≡ 0
 
-pub numbered : {A : Type 0} (a : Answer A) (r : Reply) → r ≡ numberedReply (code a) → Refuses a r
+numbered : {A : Type 0} (a : Answer A) (r : Reply) → r ≡ numberedReply (code a) → Refuses a r
 numbered {A} a r number = record { by = go a number; no-answer = no-value (code a) r number }
   where
     go : (b : Answer A) → r ≡ numberedReply (code b) → (r .code ≡ 0 → ⊥) → (n : ℕ) × (b ≡ refused n)
@@ -92,11 +92,11 @@ numbered {A} a r number = record { by = go a number; no-answer = no-value (code 
 
 -- a table, and a place
 module _ {A R : Type 0} (c : Codec R) {a : Answer A} {r : Reply} (h : Refuses a r) (was left : List ℕ) where
-  pub table-left : (table : A → Table R) → left ≡ after c table was a → AsFound r was left
+  table-left : (table : A → Table R) → left ≡ after c table was a → AsFound r was left
   unfolding after
   table-left table e refusal = (h .no-answer refusal, e ∙ ap (after c table was) (h .by refusal .1))
 
-  pub place-left : (record-of : A → R) → left ≡ Opens.outAfter c record-of was a → AsFound r was left
+  place-left : (record-of : A → R) → left ≡ Opens.outAfter c record-of was a → AsFound r was left
   unfolding Opens.outAfter
   place-left record-of e refusal = (h .no-answer refusal, e ∙ ap (Opens.outAfter c record-of was) (h .by refusal .1))
 

@@ -1,9 +1,9 @@
 -- Recover, whose rule answers a number beside its tables: a number other than 0 and 8 comes with the tables at entry, and those laid over their own bytes are these bytes; with 8 the rule's own theorem says which
 -- volumes are left (rules `Numbers`), and the logs are those at entry.
 use Prim.Native.Nat.{ℕ}
-use mathlib.Core.Path.{_≡_, refl, sym, ap, _∙_}
+use mathlib.Core.Path.{_≡_, sym, ap, _∙_}
 use mathlib.Core.List.{List, []}
-use mathlib.Core.Bool.{Bool, true, false}
+use mathlib.Core.Bool.{true, false}
 use mathlib.Core.Logic.{⊎-elim}
 use native.Mathlib.Omega.{arith}
 use Rattle.octets.specs.Bytes.{AreBytes}
@@ -38,7 +38,7 @@ module _ (t cs ks es : List ℕ) (vid : Id) where
   abbrev rule : Recovered
   rule = recover (volumesIn t) (logsIn cs ks es) vid
 
-  abbrev pub outcome : Answer Recovered
+  abbrev outcome : Answer Recovered
   outcome = lent (pushOk t cs ks es) (done rule)
 
   -- the rule's tables, where its number is neither 0 nor 8

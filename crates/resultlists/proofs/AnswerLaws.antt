@@ -12,7 +12,6 @@ use Rattle.core.specs.Answers.{Answer, refused, done, ask, _>>_}
 use Rattle.layout.specs.Codecs.{Codec}
 use Rattle.arguments.specs.Replies.{none-under, given}
 use Rattle.resultlists.specs.Lists.{slotsIn, listLeft}
-use Rattle.resultlists.proofs.EntryLaws.{Listed}
 
 module _ {A : Type 0} (c : Codec A) (was : List ℕ) (items : ℕ) (q : Answer (List A)) where
   -- a refusal leaves all as found
@@ -22,10 +21,6 @@ module _ {A : Type 0} (c : Codec A) (was : List ℕ) (items : ℕ) (q : Answer (
   -- the entries that were put, and their number
   pub left-put : (l : List A) (t : List ℕ) (n : ℕ) → q ≡ done l → t ≡ put 0 (flat (c .spell) l) was → n ≡ length l → (given, (t, n)) ≡ listLeft c was items q
   left-put l t n e w k = ap₂ (λ (b : List ℕ) (m : ℕ). (given, (b, m))) w k ∙ ap (listLeft c was items) (sym e)
-
-  -- by a loop
-  pub left-listed : (s : ℕ) (l : List A) (t : List ℕ) (n : ℕ) → q ≡ done l → Listed c s was l t → n ≡ length l → (given, (t, n)) ≡ listLeft c was items q
-  left-listed s l t n e w k = left-put l t n e (w .bytes) k
 
 -- ---- room, as the rules ask for it
 

@@ -1,27 +1,19 @@
 -- Entries put one after another: each fills its s bytes, so that a list of k entries ends at k * s, and what is put there joins it. Assumes nothing.
 use Prim.Native.Nat.{ℕ, _+_, _*_, _/_, _≤_}
-use mathlib.Core.Path.{_≡_, refl, sym, ap, _∙_}
-use mathlib.Core.List.{List, [], _∷_, _++_, append-assoc, append-nil}
+use mathlib.Core.Path.{_≡_, sym, ap, _∙_}
+use mathlib.Core.List.{List, [], _∷_, _++_}
 use native.Mathlib.Nat.{zero-add, zero-mul, one-mul, add-mul, div-mul-le-self, mul-le-mul-right}
 use native.Mathlib.Omega.{arith}
 use lib.ListN.{length, length-append}
 use Rattle.octets.specs.Bytes.{put}
 use Rattle.octets.specs.Flat.{flat}
 use Rattle.octets.proofs.Places.{Stored, then-stored, put-none}
+pub use Rattle.octets.proofs.Flats.{flat-append, flat-one}
 use Rattle.layout.specs.Codecs.{Codec}
 
 -- ---- entries in bytes
 
 module _ {A : Type 0} (e : A → List ℕ) where
-  pub flat-append : (l m : List A) → flat e (l ++ m) ≡ flat e l ++ flat e m
-  unfolding flat
-  flat-append [] m = refl
-  flat-append (x ∷ l) m = ap (λ (b : List ℕ). e x ++ b) (flat-append l m) ∙ sym (append-assoc (e x) (flat e l) (flat e m))
-
-  pub flat-one : (x : A) → flat e (x ∷ []) ≡ e x
-  unfolding flat
-  flat-one x = append-nil (e x)
-
   -- each entry fills s bytes
   unfoldable pub Fill : ℕ → List A → Type 0
   Fill s [] = Unit {0}

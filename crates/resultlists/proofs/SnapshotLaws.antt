@@ -8,6 +8,7 @@ use borrow.Author.Tests.{le-leb}
 use lib.Dec.{leb}
 use lib.ListN.{length}
 use Rattle.core.specs.Answers.{Answer, refused, done, code, ask, _>>_}
+use Rattle.core.proofs.AskLaws.{refuses}
 use Rattle.rules.specs.Records.{Snapshot}
 use Rattle.rules.specs.Arguments.{snapshotLsns, snapshotOrder, snapshotForm}
 use Rattle.arguments.specs.Snapshots.{snapshotIn, snapshotFormed}
@@ -17,12 +18,6 @@ use Rattle.resultlists.specs.Snapshots.{snapshotGiven}
 -- the three checks
 abbrev chain : Snapshot → Bool → Bool → Bool → Answer Snapshot
 chain s b c d = ask b 1 >> (ask c 2 >> (ask d 3 >> done s))
-
-stopped : (s : Snapshot) (b c d : Bool) (n : ℕ) → n ≡ code (chain s b c d) → (n ≡ 0 → ⊥) → chain s b c d ≡ refused n
-stopped s true true true n e z = absurd (z e)
-stopped s true true false n e z = ap refused (sym e)
-stopped s true false d n e z = ap refused (sym e)
-stopped s false c d n e z = ap refused (sym e)
 
 passed : {A : Type 0} (s : Snapshot) (b c d : Bool) (rule : Answer A) → 0 ≡ code (chain s b c d) → (ask b 1 >> (ask c 2 >> rule)) ≡ rule
 passed s true true d rule e = refl
@@ -53,7 +48,7 @@ module _ (b : List ℕ) (n : ℕ) (e : n ≡ code (snapshotGiven b)) where
   -- a number other than 0 refuses
   pub given-refused : (n ≡ 0 → ⊥) → snapshotGiven b ≡ refused n
   unfolding snapshotGiven
-  given-refused z = stopped (snapshotIn b) (snapshotLsns (snapshotIn b)) (snapshotOrder (snapshotIn b)) (snapshotFormed b) n e z
+  given-refused z = refuses (snapshotGiven b) n e z
 
   module _ (z : n ≡ 0) where
     -- under 0 the snapshot is what the bytes spell

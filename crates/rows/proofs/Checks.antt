@@ -1,14 +1,13 @@
 -- The check of a table by code: that its keys rise, then row by row that each is in form. The invariant of the loop says that the whole test is that of the
 -- rows from i on; a row that is not in form, or the end of the rows, ends it. And what a row of a checked table is: the bytes of a record in form.
-use Prim.Native.Nat.{ℕ, zero, suc, _+_, _-_, _*_, _<_, _≤_, Ordering}
-use mathlib.Core.Path.{_≡_, refl, sym, ap, _∙_}
+use Prim.Native.Nat.{ℕ, zero, suc, _+_, _*_, _<_, _≤_, Ordering}
+use mathlib.Core.Path.{_≡_, sym, ap, _∙_}
 use mathlib.Core.List.{List, [], _∷_}
 use mathlib.Core.Bool.{Bool, true, false, _&&_}
 use native.Mathlib.Omega.{arith}
 use native.Mathlib.Numerals.{add-one}
-use lib.ListN.{length, take, drop, getD, drop-of-length-le}
+use lib.ListN.{length, drop, getD, drop-of-length-le}
 use Rattle.octets.specs.Bytes.{part}
-use Rattle.octets.proofs.Places.{part-slice}
 use Rattle.rules.specs.Lists.{all}
 use Rattle.rules.proofs.TableLaws.{and-fst, and-snd}
 use Rattle.rules.proofs.Loops.{all-step}
@@ -51,10 +50,6 @@ module _ {R K : Type 0} {c : Codec R} {s k : ℕ} {form : R → Bool} {key : R �
   check-end i l h =
       let n : length (recs s t) ≤ i = omega (arith, length-recs s t) in
       sym (h ∙ ap (all (inForm c form)) (drop-of-length-le (recs s t) n))
-
--- row i as a part of a slice: what `&t[at..at + s]` holds
-pub row-slice : (s i : ℕ) (t : List ℕ) → take (2 + i * s + s - (2 + i * s)) (drop (2 + i * s) t) ≡ part (2 + i * s) s t
-row-slice s i t = part-slice (2 + i * s) (2 + i * s + s) s t refl
 
 -- it lies within the bytes
 pub row-room : (s k i : ℕ) (t : List ℕ) → 0 < s → wellOrdered s k t ≡ true → i < countOf t → 2 + i * s + s ≤ length t

@@ -42,7 +42,7 @@ module _ {R K : Type 0} (key : R → K) (order : K → K → Ordering) (form f :
     pub after : (r : R) → form r ≡ true → f r ≡ true → isLe (order x (key r)) ≡ true
     pub falling : (p q : R) → form p ≡ true → form q ≡ true → isLe (order x (key p)) ≡ true → order (key p) (key q) ≡ Ordering·lt → f q ≡ true → f p ≡ true
 
-  pub first-from : FromOn → (l : List R) → inOrder key order l ≡ true → all form l ≡ true → first f l ≡ onlyIf f (from key order x l)
+  first-from : FromOn → (l : List R) → inOrder key order l ≡ true → all form l ≡ true → first f l ≡ onlyIf f (from key order x l)
   unfolding first from inOrder all
   first-from h [] up e = refl
   first-from h (z ∷ zs) up e =
@@ -65,17 +65,17 @@ module _ {A B : Type 0} (f : A → B) where
   nth-map (x ∷ l) zero d h = refl
   nth-map (x ∷ l) (suc i) d h = nth-map l i d (omega arith)
 
-  map-drop : (n : ℕ) (l : List A) → map f (drop n l) ≡ drop n (map f l)
+  pub map-drop : (n : ℕ) (l : List A) → map f (drop n l) ≡ drop n (map f l)
   map-drop zero l = refl
   map-drop (suc n) [] = refl
   map-drop (suc n) (x ∷ l) = map-drop n l
 
-  map-take : (n : ℕ) (l : List A) → map f (take n l) ≡ take n (map f l)
+  pub map-take : (n : ℕ) (l : List A) → map f (take n l) ≡ take n (map f l)
   map-take zero l = refl
   map-take (suc n) [] = refl
   map-take (suc n) (x ∷ l) = ap (λ (m : List B). f x ∷ m) (map-take n l)
 
-pub nth-end : {A : Type 0} (l : List A) (i : ℕ) → length l ≤ i → nth i l ≡ none
+nth-end : {A : Type 0} (l : List A) (i : ℕ) → length l ≤ i → nth i l ≡ none
 nth-end [] i h = refl
 nth-end (x ∷ l) zero h = absurd (omega arith)
 nth-end (x ∷ l) (suc i) h = nth-end l i (omega arith)
@@ -171,7 +171,7 @@ module _ {R K : Type 0} {c : Codec R} {s k : ℕ} {form : R → Bool} {key : R �
 
     module _ (t : List ℕ) (e : formedIn c k form t ≡ true) where
       -- the record of a key as bytes have it
-      pub get-rows : get key order x (tableIn c t .rows) ≡ Option·map (c .read) (look k kb (recs s t))
+      get-rows : get key order x (tableIn c t .rows) ≡ Option·map (c .read) (look k kb (recs s t))
       get-rows = get-look (tableIn c t .rows) (formed-forms L t e) ∙ ap (λ (rs : List (List ℕ)). Option·map (c .read) (look k kb rs)) (sym (rows-are L t e))
 
       -- the record of a key is the one at the spot of its bytes
@@ -185,7 +185,7 @@ module _ {R K : Type 0} {c : Codec R} {s k : ℕ} {form : R → Bool} {key : R �
       get-gap i p = get-rows ∙ ap (Option·map (c .read)) (look-gap k kb (recs s t) i (well-rises s k t (formed-well L t e)) p)
 
       -- the first record at or after a key stands at the place of its bytes
-      pub from-place : (i : ℕ) → i ≡ place (spot k kb (recs s t)) → from key order x (tableIn c t .rows) ≡ nth i (tableIn c t .rows)
+      from-place : (i : ℕ) → i ≡ place (spot k kb (recs s t)) → from key order x (tableIn c t .rows) ≡ nth i (tableIn c t .rows)
       from-place i p =
           from-look (tableIn c t .rows) (formed-forms L t e)
           ∙ ap (λ (j : ℕ). nth j (tableIn c t .rows)) (ap (λ (rs : List (List ℕ)). place (spot k kb rs)) (sym (rows-are L t e)) ∙ sym p)

@@ -14,10 +14,10 @@ use Rattle.octets.specs.declared.Order.{Order}
 use Rattle.octets.specs.declared.Order.the-variants.{Less, Equal, Greater}
 use Rattle.octets.proofs.Numbers.{length-bytesOf, length-down}
 use Rattle.octets.proofs.Orders as O
-use Rattle.octets.proofs.Places.{part-front}
+use Rattle.octets.proofs.Places.{part-front, part-whole}
 use Rattle.core.specs.Orders.{bytes, both, up, next}
 use Rattle.core.specs.Orders as C
-use Rattle.core.proofs.OrderLaws.{part-whole, Lawful, ordering-then, ordering-lex}
+use Rattle.core.proofs.OrderLaws.{Lawful, ordering-then, ordering-lex}
 use Rattle.table.specs.Records.{cmp}
 use Rattle.layout.specs.Codecs.{Codec, number, complement, raw, padded, reserved, pair, viewed, Holds}
 use Rattle.rows.proofs.Rows.{Layout}
@@ -141,12 +141,12 @@ module _ {R K : Type 0} {c : Codec R} {d : Codec K} {form : R → Bool} {key : R
   front-key r f = ap (part 0 (d .size)) (F .spells r) ∙ part-front (d .size) (d .spell (key r) ++ F .rest r) ∙ take-at (d .spell (key r)) (F .rest r) (d .size) (A .long (key r) (F .okay r f))
 
   -- the key's bytes in front of others name it
-  pub front-names : (kb : List ℕ) (x : K) → ok x → part 0 (d .size) kb ≡ d .spell x → (r : R) → form r ≡ true → ordering (cmp (d .size) kb (c .spell r)) ≡ order x (key r)
+  front-names : (kb : List ℕ) (x : K) → ok x → part 0 (d .size) kb ≡ d .spell x → (r : R) → form r ≡ true → ordering (cmp (d .size) kb (c .spell r)) ≡ order x (key r)
   front-names kb x h e r f = ap₂ (λ (a b : List ℕ). ordering (lex a b)) e (front-key r f) ∙ A .stand x (key r) h (F .okay r f)
 
   -- and so do its bytes alone
   pub own-names : (x : K) → ok x → (r : R) → form r ≡ true → ordering (cmp (d .size) (d .spell x) (c .spell r)) ≡ order x (key r)
-  own-names x h = front-names (d .spell x) x h (part-whole (d .spell x) (d .size) (A .long x h))
+  own-names x h = front-names (d .spell x) x h (part-whole (d .size) (d .spell x) (A .long x h))
 
   -- the layout of a record with that key
   pub front-layout : Lawful order → (s : ℕ) → c .size ≡ s → 0 < s → d .size ≤ s → ((r : R) → form r ≡ true → Holds c r) → Layout c s (d .size) form key order

@@ -1,25 +1,22 @@
--- Records put one by one, or a run of them at a time. On the way from bytes t to the table w the bytes u are formed, the records still to come make u's table w, and w laid over u is w
+-- Records put a run at a time. On the way from bytes t to the table w the bytes u are formed, the records still to come make u's table w, and w laid over u is w
 -- laid over t: puts leave no more records than w has, so w covers whatever they changed. The records to come are fewer after each put.
 use Prim.Native.Nat.{ℕ, _≤_, min, Ordering}
 use mathlib.Core.Path.{_≡_, refl, sym, ap, _∙_}
-use mathlib.Core.List.{List, [], _∷_, _++_}
+use mathlib.Core.List.{List, [], _++_}
 use mathlib.Core.Bool.{Bool, true, _&&_}
 use native.Mathlib.Omega.{arith}
 use lib.ListN.{length}
 use borrow.Author.Tests.{leb-true, le-leb}
 use Rattle.octets.specs.Bytes.{AreBytes}
 use Rattle.rules.specs.Lists.{all}
-use Rattle.rules.specs.Tables.{Table, fits, put, putAll, formed, storeAll}
+use Rattle.rules.specs.Tables.{Table, fits, putAll, formed, storeAll}
 use Rattle.rules.proofs.TableLaws as Rules
 use Rattle.rules.proofs.Rooms.{length-putAll}
 use Rattle.rules.proofs.RoomOfCalls.{putAll-append}
-use Rattle.table.specs.Records as T
-use Rattle.table.specs.Table.{recs, laid}
-use Rattle.table.specs.Table as B
 use Rattle.layout.specs.Codecs.{Codec}
 use Rattle.layout.specs.Tables.{formedIn, tableIn, laidOver}
 use Rattle.rows.proofs.Rows.{Layout, formed-two, formed-up, formed-rules, laid-same, laid-after}
-use Rattle.rows.proofs.Stores.{put-laid, put-fits, storeAll-holds}
+use Rattle.rows.proofs.Stores.{storeAll-holds}
 
 module _ {R K : Type 0} {c : Codec R} {s k : ℕ} {form : R → Bool} {key : R → K} {order : K → K → Ordering} (L : Layout c s k form key order) where
   -- u is on the way from t to w, with the records xs to come
@@ -40,7 +37,7 @@ module _ {R K : Type 0} {c : Codec R} {s k : ℕ} {form : R → Bool} {key : R �
     both : all form xs && all form ys ≡ true
     both = sym (Rules.all-append form xs ys) ∙ h .forms
 
-    pub now-form : all form xs ≡ true
+    now-form : all form xs ≡ true
     now-form = Rules.and-fst (all form xs) (all form ys) both
 
     then-form : all form ys ≡ true
@@ -88,22 +85,6 @@ module _ {R K : Type 0} {c : Codec R} {s k : ℕ} {form : R → Bool} {key : R �
     -- the table that the bytes hold then
     pub many-table : (v : List ℕ) → v ≡ laidOver c (storeAll key order xs (tableIn c u)) u → tableIn c v ≡ storeAll key order xs (tableIn c u)
     many-table v d = ap (tableIn c) d ∙ storeAll-holds L u (h .good) xs now-form many-fits .table
-
-  -- one record of those to come is a run of one
-  module _ (x : R) (xs : List R) (t : List ℕ) (w : Table R) (u : List ℕ) (h : Storing (x ∷ xs) t w u) where
-    next-form : form x ≡ true
-    unfolding all
-    next-form = Rules.and-fst (form x) (all form xs) (h .forms)
-
-    -- there is room for it
-    pub storing-fits : B.fits s (T.put k (c .spell x) (recs s u)) u ≡ true
-    unfolding putAll
-    storing-fits = put-fits L u (h .good) x next-form ∙ many-fits (x ∷ []) xs t w u h
-
-    -- and after its put the others are to come
-    pub storing-next : (v : List ℕ) → v ≡ laid (T.put k (c .spell x) (recs s u)) u → Storing xs t w v
-    unfolding putAll
-    storing-next v e = storing-many (x ∷ []) xs t w u h v (e ∙ put-laid L u (h .good) x next-form)
 
   -- at the end the bytes are w laid over t
   pub storing-end : (t : List ℕ) (w : Table R) (u : List ℕ) → Storing [] t w u → AreBytes u → u ≡ laidOver c w t

@@ -114,7 +114,7 @@ module _ {R K : Type 0} {c : Codec R} {s k : ℕ} {form : R → Bool} {key : R �
   long-is x e = L .holds x e .long ∙ L .wide
 
   -- what a batch of them must have
-  pub each-spelled : (l : List R) → all form l ≡ true → Each s (map (c .spell) l)
+  each-spelled : (l : List R) → all form l ≡ true → Each s (map (c .spell) l)
   unfolding all
   each-spelled [] e = tt
   each-spelled (x ∷ l) e = (long-is x (and-fst (form x) (all form l) e), each-spelled l (and-snd (form x) (all form l) e))
@@ -142,7 +142,7 @@ module _ {R K : Type 0} {c : Codec R} {s k : ℕ} {form : R → Bool} {key : R �
       (rises-stepwise (y ∷ l) f)
 
   -- the keys rise as bytes just where they do as the rules have them
-  pub rises-spelled : (l : List R) → all form l ≡ true → rises k (map (c .spell) l) ≡ inOrder key order l
+  rises-spelled : (l : List R) → all form l ≡ true → rises k (map (c .spell) l) ≡ inOrder key order l
   rises-spelled l e = rises-stepwise l e ∙ stepwise-is key order (L .lawful) l
 
   -- ---- a formed table

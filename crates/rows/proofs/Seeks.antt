@@ -59,7 +59,7 @@ at-least m y =
 
 module _ {R : Type 0} (key : R → List ℕ × ℕ) (form : R → Bool) (a : Id) (n : ℕ) where
   -- the records of an identifier whose number is at most n
-  pub below-on : FromOn key (both bytes down) form (λ r. sameId a (key r .0) && leb (key r .1) n) (a, n)
+  below-on : FromOn key (both bytes down) form (λ r. sameId a (key r .0) && leb (key r .1) n) (a, n)
   below-on = record {
     after = λ r e h.
         ap isLe (pair-same bytes-lawful down a n (key r) (same-id a (key r .0) (and-fst (sameId a (key r .0)) (leb (key r .1) n) h)))
@@ -70,20 +70,20 @@ module _ {R : Type 0} (key : R → List ℕ × ℕ) (form : R → Bool) (a : Id)
   }
 
   -- all records of an identifier, where no number is above n
-  pub all-on : ((r : R) → form r ≡ true → key r .1 ≤ n) → FromOn key (both bytes down) form (λ r. sameId a (key r .0)) (a, n)
+  all-on : ((r : R) → form r ≡ true → key r .1 ≤ n) → FromOn key (both bytes down) form (λ r. sameId a (key r .0)) (a, n)
   all-on top = record {
     after = λ r e h. below-on .after r e (and-both h (le-leb (key r .1) n (top r e)));
     falling = λ p q ep eq h l g. and-fst (sameId a (key p .0)) (leb (key p .1) n) (below-on .falling p q ep eq h l (and-both g (le-leb (key q .1) n (top q eq))));
   }
 
   -- the records from one key to another of the same identifier
-  pub within-is : (m : ℕ) (r : R) → within key (both bytes down) (a, n) (a, m) r ≡ (sameId a (key r .0) && leb m (key r .1) && leb (key r .1) n)
+  within-is : (m : ℕ) (r : R) → within key (both bytes down) (a, n) (a, m) r ≡ (sameId a (key r .0) && leb m (key r .1) && leb (key r .1) n)
   within-is m r =
       orders (bytes a (key r .0)) (λ h. rw h) (λ h. rw (h, at-least m (key r .1)) (and-comm (leb (key r .1) n) (leb m (key r .1)))) (λ h. rw h)
 
 -- ---- the index: log up, page up, LSN down
 
-pub entry-on : (r : Range) (p : ℕ) → FromOn entryKey logPageLsn entryForm (entryIn r p) (r .log, (p, r .end))
+entry-on : (r : Range) (p : ℕ) → FromOn entryKey logPageLsn entryForm (entryIn r p) (r .log, (p, r .end))
 entry-on r p = record {
   after = λ e f h.
       let k = entry-in r p e h in

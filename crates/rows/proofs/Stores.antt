@@ -3,32 +3,27 @@
 use Prim.Native.Nat.{ℕ, _+_, Ordering}
 use mathlib.Core.Path.{_≡_, refl, sym, ap, ap₂, _∙_}
 use mathlib.Core.List.{List, [], _∷_, map}
-use mathlib.Core.Option.{Option, none, some, Option·map}
-use mathlib.Core.Bool.{Bool, true, cond}
-use lib.Dec.{isEq}
+use mathlib.Core.Bool.{Bool, true}
 use lib.ListN.{set}
 use Rattle.octets.specs.Order.{ordering}
 use Rattle.octets.specs.declared.Order.{Order}
 use Rattle.octets.specs.declared.Order.the-variants.{Less, Equal, Greater}
 use Rattle.core.proofs.OrderLaws.{ordering-same}
-use Rattle.rules.specs.Lists.{all, isSome}
-use Rattle.rules.specs.Tables.{inOrder, get, fits, placed, put, putAll, store, storeAll}
-use Rattle.rules.specs.Room.{held, lacks, hasRoom}
+use Rattle.rules.specs.Lists.{all}
+use Rattle.rules.specs.Tables.{fits, placed, put, putAll, store, storeAll}
 use Rattle.rules.proofs.TableLaws as Rules
-use Rattle.rules.proofs.Rooms.{fits-store, fits-storeAll}
-use Rattle.table.specs.Records.{cmp, look, spotBy, spot, inserted, putBy}
+use Rattle.table.specs.Records.{cmp, spotBy, spot, putBy}
 use Rattle.table.specs.Records as T
 use Rattle.table.specs.Table.{countOf, recs, laid, holds}
 use Rattle.table.specs.Table as B
 use Rattle.table.specs.declared.Spot.the-variants.{At, Gap}
-use Rattle.table.proofs.Spots.{put-at, put-gap}
+use Rattle.table.proofs.Spots.{put-at}
 use Rattle.table.proofs.Ends.{room-at, room-gap}
 use Rattle.batch.specs.Batch as Many
-use Rattle.batch.proofs.Puts.{room-news, news-rising}
 use Rattle.layout.specs.Codecs.{Codec}
 use Rattle.layout.specs.Tables.{formedIn, tableIn, laidOver}
-use Rattle.rows.proofs.Rows.{Layout, rises-spelled, formed-two, Laid, formed-well, formed-forms, formed-up, formed-rules, rows-are, fits-is, laid-holds}
-use Rattle.rows.proofs.Finds.{Names, names-own, get-rows}
+use Rattle.rows.proofs.Rows.{Layout, formed-two, Laid, formed-well, formed-forms, formed-rules, rows-are, fits-is, laid-holds}
+use Rattle.rows.proofs.Finds.{Names, names-own}
 
 module _ {R K : Type 0} {c : Codec R} {s k : ℕ} {form : R → Bool} {key : R → K} {order : K → K → Ordering} (L : Layout c s k form key order) where
   -- ---- puts
@@ -65,20 +60,6 @@ module _ {R K : Type 0} {c : Codec R} {s k : ℕ} {form : R → Bool} {key : R �
       ap₂ spotBy (ordering-same (cmp k a (c .spell r)) (cmp k b (c .spell r)) (na r f ∙ sym (nb r f))) (names-spot a b x na nb l (Rules.and-snd (form r) (all form l) e))
 
   module _ (t : List ℕ) (e : formedIn c k form t ≡ true) where
-    -- ---- one key
-
-    -- a key is new in bytes just where the rules do not hold it
-    pub lacks-is : (kb : List ℕ) (x : K) → Names L kb x → Many.lacks k kb (recs s t) ≡ lacks key order x (tableIn c t .rows)
-    unfolding Many.lacks held get
-    lacks-is kb x n =
-        gone-is (look k kb (recs s t))
-        ∙ ap (λ (o : Option R). cond (isSome o) 0 1) (sym (get-rows L kb x n t e))
-        ∙ ap (λ (b : Bool). cond b 0 1) (sym (Rules.first-any (λ r. isEq (order x (key r))) (tableIn c t .rows)))
-      where
-        gone-is : (o : Option (List ℕ)) → Many.gone o ≡ cond (isSome (Option·map (c .read) o)) 0 1
-        gone-is none = refl
-        gone-is (some b) = refl
-
     -- ---- one record stored
 
     module _ (r : R) (f : form r ≡ true) where
@@ -93,9 +74,6 @@ module _ {R K : Type 0} {c : Codec R} {s k : ℕ} {form : R → Bool} {key : R �
       -- there is room for it
       pub put-fits : B.fits s (T.put k (c .spell r) (recs s t)) t ≡ fits (store key order r (tableIn c t))
       put-fits = ap (λ (rs : List (List ℕ)). B.fits s rs t) put-rows ∙ fits-is L (put key order r (tableIn c t .rows)) t
-
-      pub put-room : B.fits s (T.put k (c .spell r) (recs s t)) t ≡ hasRoom key order (tableIn c t) (r ∷ [])
-      put-room = put-fits ∙ fits-store key order (L .lawful) r (tableIn c t) (formed-up L t e)
 
       -- and bytes that hold the table after it
       pub store-holds : fits (store key order r (tableIn c t)) ≡ true → Laid L (store key order r (tableIn c t)) t (laidOver c (store key order r (tableIn c t)) t)
@@ -118,9 +96,6 @@ module _ {R K : Type 0} {c : Codec R} {s k : ℕ} {form : R → Bool} {key : R �
         over-fits p = sym put-fits ∙ sym (room-at s k t (c .spell r) i (spot k (c .spell r) (recs s t)) refl (own-spot ∙ p) (formed-well L t e))
 
         -- or it goes in before that one, which needs room for one more
-        pub insert-laid : spot k kb (recs s t) ≡ Gap i → laid (inserted i (c .spell r) (recs s t)) t ≡ laidOver c (store key order r (tableIn c t)) t
-        insert-laid p = ap (λ (rs : List (List ℕ)). laid rs t) (sym (put-gap k (c .spell r) (recs s t) i (own-spot ∙ p))) ∙ put-laid
-
         pub insert-fits : spot k kb (recs s t) ≡ Gap i → holds s (countOf t + 1) t ≡ fits (store key order r (tableIn c t))
         insert-fits p = room-gap s k t (c .spell r) i (spot k (c .spell r) (recs s t)) refl (own-spot ∙ p) (holds s (countOf t + 1) t) refl ∙ put-fits
 
@@ -138,16 +113,6 @@ module _ {R K : Type 0} {c : Codec R} {s k : ℕ} {form : R → Bool} {key : R �
 
       pub putAll-fits : B.fits s (Many.putAll k (map (c .spell) rs) (recs s t)) t ≡ fits (storeAll key order rs (tableIn c t))
       putAll-fits = ap (λ (bs : List (List ℕ)). B.fits s bs t) putAll-rows ∙ fits-is L (putAll key order rs (tableIn c t .rows)) t
-
-      -- room for the distinct new keys, counted in bytes
-      pub news-room : holds s (countOf t + Many.news k (map (c .spell) rs) (recs s t)) t ≡ hasRoom key order (tableIn c t) rs
-      news-room =
-          room-news s k (map (c .spell) rs) t (formed-well L t e) ∙ putAll-fits
-          ∙ fits-storeAll key order (L .lawful) rs (tableIn c t) (formed-up L t e)
-
-      -- and where they rise, one by one
-      pub fresh-room : inOrder key order rs ≡ true → holds s (countOf t + Many.fresh k (map (c .spell) rs) (recs s t)) t ≡ hasRoom key order (tableIn c t) rs
-      fresh-room up = ap (λ (n : ℕ). holds s (countOf t + n) t) (sym (news-rising k (map (c .spell) rs) (recs s t) (rises-spelled L rs f ∙ up))) ∙ news-room
 
       -- and bytes that hold the table after them
       pub storeAll-holds : fits (storeAll key order rs (tableIn c t)) ≡ true → Laid L (storeAll key order rs (tableIn c t)) t (laidOver c (storeAll key order rs (tableIn c t)) t)

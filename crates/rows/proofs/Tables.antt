@@ -1,13 +1,12 @@
 -- The six tables: the order of each key's bytes by its parts, the layout of each record, and the bytes that name a key. What is in document 01's form is
 -- within the limits of its bytes, so its key is.
-use Prim.Native.Nat.{ℕ, _^_, _<_, _≤_}
+use Prim.Native.Nat.{_^_, _<_, _≤_}
 use mathlib.Core.Path.{_≡_, refl}
-use mathlib.Core.List.{List, _∷_}
+use mathlib.Core.List.{_∷_}
 use mathlib.Core.Bool.{true, _&&_}
 use native.Mathlib.Omega.{arith}
 use lib.ListN.{length}
 use borrow.Author.Tests.{leb-true}
-use Rattle.octets.specs.Bytes.{part}
 use Rattle.core.specs.Orders.{bytes, logLsn, logPageLsn, sidPage}
 use Rattle.core.proofs.OrderLaws.{bytes-lawful, logLsn-lawful, logPageLsn-lawful, sidPage-lawful}
 use Rattle.rules.specs.Records.{Id, Name, LogLsn, LogPageLsn, SidPage, Commit, Volume, Entry, Checkpoint, Present, Tag, commitKey, checkpointKey, entryKey, presentKey, volumeKey, tagKey}
@@ -19,7 +18,7 @@ use Rattle.layout.specs.Records.{volumeOf, volumeParts, tagOf, tagParts, checkp
 use Rattle.layout.proofs.FormHolds.{bytes-held, lsn-bound, page-bound, volume-held, tag-held, commit-held, checkpoint-held, entry-held, present-held}
 use Rattle.rows.proofs.Rows.{Layout}
 use Rattle.rows.proofs.Finds.{Names}
-use Rattle.rows.proofs.KeyOrders.{KeyOrder, Fronted, raw-order, number-order, complement-order, padded-order, reserved-order, pair-order, pair-front, whole-front, front-names, own-names, front-layout}
+use Rattle.rows.proofs.KeyOrders.{KeyOrder, Fronted, raw-order, number-order, complement-order, padded-order, reserved-order, pair-order, pair-front, whole-front, own-names, front-layout}
 
 -- ---- the keys
 
@@ -32,13 +31,13 @@ abbrev pub OkName : Name → Type 0
 OkName x = length x ≤ 32
 
 -- an LSN has 8 bytes, a page 4
-abbrev pub OkLogLsn : LogLsn → Type 0
+abbrev OkLogLsn : LogLsn → Type 0
 OkLogLsn x = OkId (x .0) × (x .1 < 256 ^ 8)
 
-abbrev pub OkLogPageLsn : LogPageLsn → Type 0
+abbrev OkLogPageLsn : LogPageLsn → Type 0
 OkLogPageLsn x = OkId (x .0) × ((x .1 .0 < 256 ^ 4) × (x .1 .1 < 256 ^ 8))
 
-abbrev pub OkSidPage : SidPage → Type 0
+abbrev OkSidPage : SidPage → Type 0
 OkSidPage x = OkId (x .0) × (x .1 < 256 ^ 4)
 
 id-order : KeyOrder (reserved idBytes) OkId bytes
@@ -64,7 +63,7 @@ sid-page-order = reserved-order (pair-order (raw-order 16) (complement-order 4))
 id-ok : (x : Id) → idForm x ≡ true → OkId x
 id-ok x f = bytes-held 16 x f .long
 
-pub volume-ok : (v : Volume) → volumeForm v ≡ true → OkId (v .vid)
+volume-ok : (v : Volume) → volumeForm v ≡ true → OkId (v .vid)
 unfolding volumeForm
 volume-ok v f = id-ok (v .vid) (search (and-fst, f))
 
@@ -72,7 +71,7 @@ name-ok : (x : Name) → nameForm x ≡ true → OkName x
 unfolding nameForm nameLength
 name-ok x f = leb-true (length x) 32 (search (and-fst, and-snd))
 
-pub tag-ok : (g : Tag) → tagForm g ≡ true → OkName (g .name)
+tag-ok : (g : Tag) → tagForm g ≡ true → OkName (g .name)
 unfolding tagForm
 tag-ok g f = name-ok (g .name) (and-fst (nameForm (g .name)) (idForm (g .vid)) f)
 
@@ -82,11 +81,11 @@ commit-ok c f =
     let h : idForm (c .log) && lsnForm (c .lsn) ≡ true = search and-fst depth 7 in
     (id-ok (c .log) (search (and-fst, h)), lsn-bound (c .lsn) (search (and-snd, h)))
 
-pub checkpoint-ok : (k : Checkpoint) → checkpointForm k ≡ true → OkLogLsn (checkpointKey k)
+checkpoint-ok : (k : Checkpoint) → checkpointForm k ≡ true → OkLogLsn (checkpointKey k)
 unfolding checkpointForm
 checkpoint-ok k f = (id-ok (k .log) (and-fst (idForm (k .log)) (lsnForm (k .lsn)) f), lsn-bound (k .lsn) (and-snd (idForm (k .log)) (lsnForm (k .lsn)) f))
 
-pub entry-ok : (e : Entry) → entryForm e ≡ true → OkLogPageLsn (entryKey e)
+entry-ok : (e : Entry) → entryForm e ≡ true → OkLogPageLsn (entryKey e)
 unfolding entryForm
 entry-ok e f = (id-ok (e .log) (search (and-fst, and-snd)), (page-bound (e .page) (search (and-fst, and-snd)), lsn-bound (e .lsn) (search (and-fst, and-snd))))
 
@@ -122,11 +121,11 @@ present-front = whole-front sidPageBytes presentForm OkSidPage presentOf present
 
 -- ---- the bytes of a record
 
-pub volume-size : volumeBytes .size ≡ 117
+volume-size : volumeBytes .size ≡ 117
 unfolding volumeBytes syncBytes pendingBytes
 volume-size = refl
 
-pub tag-size : tagBytes .size ≡ 50
+tag-size : tagBytes .size ≡ 50
 unfolding tagBytes
 tag-size = refl
 
@@ -134,15 +133,15 @@ pub commit-size : commitBytes .size ≡ 722
 unfolding commitBytes logLsnBytes segmentBytes setBytes framesBytes windowBytes frameBytes
 commit-size = refl
 
-pub checkpoint-size : checkpointBytes .size ≡ 25
+checkpoint-size : checkpointBytes .size ≡ 25
 unfolding checkpointBytes logLsnBytes
 checkpoint-size = refl
 
-pub entry-size : entryBytes .size ≡ 29
+entry-size : entryBytes .size ≡ 29
 unfolding entryBytes logPageLsnBytes
 entry-size = refl
 
-pub present-size : presentBytes .size ≡ 21
+present-size : presentBytes .size ≡ 21
 unfolding presentBytes sidPageBytes
 present-size = refl
 
@@ -170,32 +169,7 @@ pub presence : Layout presentBytes 21 21 presentForm presentKey sidPage
 unfolding sidPageBytes
 presence = front-layout present-front sid-page-order sidPage-lawful 21 present-size (omega arith) (omega arith) present-held
 
--- ---- bytes that begin with a key's bytes name it
-
-module _ (kb : List ℕ) where
-  pub volume-names : (vid : Id) → OkId vid → part 0 17 kb ≡ 0 ∷ vid → Names volumes kb vid
-  volume-names vid h e = front-names volume-front id-order kb vid h e
-
-  pub tag-names : (name : Name) → OkName name → part 0 34 kb ≡ reserved (padded 32) .spell name → Names tags kb name
-  tag-names name h e = front-names tag-front name-order kb name h e
-
-  pub commit-names : (x : LogLsn) → OkLogLsn x → part 0 25 kb ≡ logLsnBytes .spell x → Names commits kb x
-  unfolding logLsnBytes
-  commit-names x h e = front-names commit-front log-lsn-order kb x h e
-
-  pub checkpoint-names : (x : LogLsn) → OkLogLsn x → part 0 25 kb ≡ logLsnBytes .spell x → Names checkpoints kb x
-  unfolding logLsnBytes
-  checkpoint-names x h e = front-names checkpoint-front log-lsn-order kb x h e
-
-  pub entry-names : (x : LogPageLsn) → OkLogPageLsn x → part 0 29 kb ≡ logPageLsnBytes .spell x → Names index kb x
-  unfolding logPageLsnBytes
-  entry-names x h e = front-names entry-front log-page-lsn-order kb x h e
-
-  pub present-names : (x : SidPage) → OkSidPage x → part 0 21 kb ≡ sidPageBytes .spell x → Names presence kb x
-  unfolding sidPageBytes
-  present-names x h e = front-names present-front sid-page-order kb x h e
-
--- and a key's bytes alone
+-- ---- a key's bytes name it
 
 pub volume-key : (vid : Id) → OkId vid → Names volumes (0 ∷ vid) vid
 volume-key vid h = own-names volume-front id-order vid h

@@ -43,26 +43,26 @@ unfoldable pub numbered : {A : Type 0} → List ℕ → Answer A → Bool
 numbered ns a = oneOf ns (code a)
 
 module _ (ns : List ℕ) where
-  pub row-done : {A : Type 0} (a : A) → oneOf ns 0 ≡ true → numbered {A = A} ns (done a) ≡ true
+  row-done : {A : Type 0} (a : A) → oneOf ns 0 ≡ true → numbered {A = A} ns (done a) ≡ true
   unfolding numbered
   row-done a p = p
 
-  pub row-ask : {A : Type 0} (b : Bool) (n : ℕ) (k : Answer A) → oneOf ns n ≡ true → numbered ns k ≡ true → numbered ns (ask b n >> k) ≡ true
+  row-ask : {A : Type 0} (b : Bool) (n : ℕ) (k : Answer A) → oneOf ns n ≡ true → numbered ns k ≡ true → numbered ns (ask b n >> k) ≡ true
   unfolding numbered
   row-ask true n k p q = q
   row-ask false n k p q = p
 
-  pub row-need : {A B : Type 0} (o : Option A) (n : ℕ) (k : A → Answer B) → oneOf ns n ≡ true → ((a : A) → numbered ns (k a) ≡ true) → numbered ns (need o n >>= k) ≡ true
+  row-need : {A B : Type 0} (o : Option A) (n : ℕ) (k : A → Answer B) → oneOf ns n ≡ true → ((a : A) → numbered ns (k a) ≡ true) → numbered ns (need o n >>= k) ≡ true
   unfolding numbered
   row-need none n k p q = p
   row-need (some a) n k p q = q a
 
-  pub row-read : {A : Type 0} (o : Option A) (n : ℕ) → oneOf ns n ≡ true → oneOf ns 0 ≡ true → numbered ns (need o n) ≡ true
+  row-read : {A : Type 0} (o : Option A) (n : ℕ) → oneOf ns n ≡ true → oneOf ns 0 ≡ true → numbered ns (need o n) ≡ true
   unfolding numbered
   row-read none n p q = p
   row-read (some a) n p q = row-done a q
 
-  pub row-then : {A B : Type 0} (m : Answer A) (k : A → Answer B) → numbered ns m ≡ true → ((a : A) → numbered ns (k a) ≡ true) → numbered ns (m >>= k) ≡ true
+  row-then : {A B : Type 0} (m : Answer A) (k : A → Answer B) → numbered ns m ≡ true → ((a : A) → numbered ns (k a) ≡ true) → numbered ns (m >>= k) ≡ true
   unfolding numbered
   row-then (refused n) k p q = p
   row-then (done a) k p q = q a
@@ -76,12 +76,12 @@ module _ (ns : List ℕ) where
   unfolding numbered
   row-code a p = p
 
-  pub row-lsn : (o : Option ℕ) → oneOf ns 18 ≡ true → oneOf ns 0 ≡ true → numbered ns (lsnAfter o) ≡ true
+  row-lsn : (o : Option ℕ) → oneOf ns 18 ≡ true → oneOf ns 0 ≡ true → numbered ns (lsnAfter o) ≡ true
   unfolding lsnAfter
   row-lsn none p q = row-done 1 q
   row-lsn (some n) p q = row-ask (ltb n lastLsn) 18 _ p (row-done (n + 1) q)
 
-  pub row-opened : (vs : Table Volume) (cs : Table Commit) (a : Asked) (x : Ids) (o : Option Volume) → oneOf ns 6 ≡ true → oneOf ns 5 ≡ true → oneOf ns 19 ≡ true → oneOf ns 0 ≡ true
+  row-opened : (vs : Table Volume) (cs : Table Commit) (a : Asked) (x : Ids) (o : Option Volume) → oneOf ns 6 ≡ true → oneOf ns 5 ≡ true → oneOf ns 19 ≡ true → oneOf ns 0 ≡ true
       → numbered ns (opened vs cs a x o) ≡ true
   row-opened vs cs a x (some v) six five room ok = row-ask (agreesOn (a .remote) v) 6 _ six (row-done _ ok)
   row-opened vs cs a x none six five room ok =
@@ -89,49 +89,49 @@ module _ (ns : List ℕ) where
       (let v : Volume = record { vid = orSpare (a .vid) (x .vid); local = orSpare (a .local) (x .local); remote = orSpare (a .remote) (x .remote); sync = syncAt (latestLsn cs (orSpare (a .remote) (x .remote))); pending = none } in
       row-ask (fits (store volumeKey bytes v vs)) 19 _ room (row-done _ ok))
 
-  pub row-push : (vs : Table Volume) (g : Logs) (v : Volume) (p : Pending) (c : Commit) → oneOf ns 19 ≡ true → oneOf ns 0 ≡ true → numbered ns (push vs g v p c) ≡ true
+  row-push : (vs : Table Volume) (g : Logs) (v : Volume) (p : Pending) (c : Commit) → oneOf ns 19 ≡ true → oneOf ns 0 ≡ true → numbered ns (push vs g v p c) ≡ true
   row-push vs g v p c room ok = row-ask (fits (store volumeKey bytes (pushedVolume v p) vs) && logsFit (write g c)) 19 _ room (row-done _ ok)
 
-  pub row-copied : (vs : Table Volume) (g : Logs) (path : List Range) (x : Ids) → oneOf ns 5 ≡ true → oneOf ns 19 ≡ true → oneOf ns 0 ≡ true → numbered ns (copied vs g path x) ≡ true
+  row-copied : (vs : Table Volume) (g : Logs) (path : List Range) (x : Ids) → oneOf ns 5 ≡ true → oneOf ns 19 ≡ true → oneOf ns 0 ≡ true → numbered ns (copied vs g path x) ≡ true
   row-copied vs g path x five room ok =
       row-ask (copyFree vs (g .commits) x) 5 _ five
       (row-ask (fits (store volumeKey bytes (newVolume x) vs) && logsFit (writeAll g (renumbered (x .local) (pathCommits (g .commits) path)))) 19 _ room (row-done _ ok))
 
-  pub row-fromCommit : (vs : Table Volume) (g : Logs) (log : Id) (lsn : ℕ) (x : Ids) (o : Option Commit) → oneOf ns 5 ≡ true → oneOf ns 19 ≡ true → oneOf ns 0 ≡ true
+  row-fromCommit : (vs : Table Volume) (g : Logs) (log : Id) (lsn : ℕ) (x : Ids) (o : Option Commit) → oneOf ns 5 ≡ true → oneOf ns 19 ≡ true → oneOf ns 0 ≡ true
       → numbered ns (fromCommit vs g log lsn x o) ≡ true
   row-fromCommit vs g log lsn x none five room ok = row-done _ ok
   row-fromCommit vs g log lsn x (some c) five room ok =
       row-then (copied vs g (record { log = log; start = 1; end = lsn } ∷ []) x) _ (row-copied vs g (record { log = log; start = 1; end = lsn } ∷ []) x five room ok) (λ r. row-done _ ok)
 
-  pub row-foundBy : (cs : Table Commit) (o : Option Entry) (later : Answer (Option Commit)) → oneOf ns 21 ≡ true → oneOf ns 0 ≡ true → numbered ns later ≡ true → numbered ns (foundBy cs o later) ≡ true
+  row-foundBy : (cs : Table Commit) (o : Option Entry) (later : Answer (Option Commit)) → oneOf ns 21 ≡ true → oneOf ns 0 ≡ true → numbered ns later ≡ true → numbered ns (foundBy cs o later) ≡ true
   row-foundBy cs none later lost ok rest = rest
   row-foundBy cs (some e) later lost ok rest = row-need (getCommit cs (e .log) (e .lsn)) 21 _ lost (λ c. row-done _ ok)
 
-  pub row-found : (cs : Table Commit) (es : Table Entry) (p : ℕ) (path : List Range) → oneOf ns 21 ≡ true → oneOf ns 0 ≡ true → numbered ns (searchPath cs es p path) ≡ true
+  row-found : (cs : Table Commit) (es : Table Entry) (p : ℕ) (path : List Range) → oneOf ns 21 ≡ true → oneOf ns 0 ≡ true → numbered ns (searchPath cs es p path) ≡ true
   row-found cs es p [] lost ok = row-done _ ok
   row-found cs es p (r ∷ rs) lost ok = row-foundBy cs (first (entryIn r p) (es .rows)) (searchPath cs es p rs) lost ok (row-found cs es p rs lost ok)
 
-  pub row-leaves : (vs : Table Volume) (g : Logs) (a : Answer (Table Volume × Logs)) → numbered ns a ≡ true → oneOf ns (leaves vs g a .0) ≡ true
+  row-leaves : (vs : Table Volume) (g : Logs) (a : Answer (Table Volume × Logs)) → numbered ns a ≡ true → oneOf ns (leaves vs g a .0) ≡ true
   unfolding numbered
   row-leaves vs g (refused n) h = h
   row-leaves vs g (done r) h = h
 
-  pub row-recoverBy : (vs : Table Volume) (g : Logs) (v : Volume) (p : Pending) (o : Option Commit) → oneOf ns 19 ≡ true → oneOf ns 8 ≡ true → oneOf ns 0 ≡ true → oneOf ns (recoverBy vs g v p o .0) ≡ true
+  row-recoverBy : (vs : Table Volume) (g : Logs) (v : Volume) (p : Pending) (o : Option Commit) → oneOf ns 19 ≡ true → oneOf ns 8 ≡ true → oneOf ns 0 ≡ true → oneOf ns (recoverBy vs g v p o .0) ≡ true
   row-recoverBy vs g v p none room eight ok = ok
   row-recoverBy vs g v p (some c) room eight ok = cases (isHash (c .hash) (p .hash)) (λ q. rw q (row-leaves vs g (push vs g v p c) (row-push vs g v p c room ok))) (λ q. rw q eight)
 
-  pub row-recoverPending : (vs : Table Volume) (g : Logs) (v : Volume) (o : Option Pending) → oneOf ns 19 ≡ true → oneOf ns 8 ≡ true → oneOf ns 0 ≡ true → oneOf ns (recoverPending vs g v o .0) ≡ true
+  row-recoverPending : (vs : Table Volume) (g : Logs) (v : Volume) (o : Option Pending) → oneOf ns 19 ≡ true → oneOf ns 8 ≡ true → oneOf ns 0 ≡ true → oneOf ns (recoverPending vs g v o .0) ≡ true
   row-recoverPending vs g v none room eight ok = ok
   row-recoverPending vs g v (some p) room eight ok = row-recoverBy vs g v p (getCommit (g .commits) (v .remote) (p .commit)) room eight ok
 
-  pub row-changed : (b h : Option ℕ) → oneOf ns 16 ≡ true → oneOf ns 0 ≡ true → numbered ns (changed b h) ≡ true
+  row-changed : (b h : Option ℕ) → oneOf ns 16 ≡ true → oneOf ns 0 ≡ true → numbered ns (changed b h) ≡ true
   unfolding changed numbered
   row-changed none none p q = q
   row-changed none (some h) p q = q
   row-changed (some b) none p q = p
   row-changed (some b) (some h) p q = q
 
-  pub row-syncBy : (vs : Table Volume) (cs : Table Commit) (v : Volume) (o : Option (ℕ × ℕ)) → oneOf ns 16 ≡ true → oneOf ns 8 ≡ true → oneOf ns 17 ≡ true → oneOf ns 0 ≡ true
+  row-syncBy : (vs : Table Volume) (cs : Table Commit) (v : Volume) (o : Option (ℕ × ℕ)) → oneOf ns 16 ≡ true → oneOf ns 8 ≡ true → oneOf ns 17 ≡ true → oneOf ns 0 ≡ true
       → numbered ns (syncBy vs cs v o) ≡ true
   row-syncBy vs cs v none sixteen eight seventeen ok = row-done _ ok
   row-syncBy vs cs v (some r) sixteen eight seventeen ok =
@@ -139,7 +139,7 @@ module _ (ns : List ℕ) where
       (λ here. row-ask (isNone here) 8 _ eight (row-ask (notOlder (remoteOf (v .sync)) (r .1)) 17 _ seventeen (row-done _ ok)))
 
   -- a number more in the row
-  pub row-more : {A : Type 0} (n : ℕ) (a : Answer A) → numbered ns a ≡ true → numbered (n ∷ ns) a ≡ true
+  row-more : {A : Type 0} (n : ℕ) (a : Answer A) → numbered ns a ≡ true → numbered (n ∷ ns) a ≡ true
   unfolding numbered any
   row-more n a h = rw h (or-true (eqb (code a) n))
 
@@ -148,7 +148,7 @@ module _ (ns : List ℕ) where
   unfolding numbered any
   row-20 b a f g = cases b (λ q. row-more 20 a (f q)) (λ q. rw (g q))
 
-  -- and 20 exactly if that check fails
+  -- such a call answers 20 exactly if that check fails
   pub only-20 : {A : Type 0} (b : Bool) (a : Answer A) → oneOf ns 20 ≡ false → (b ≡ true → numbered ns a ≡ true) → (b ≡ false → a ≡ refused 20) → (code a ≡ 20) ↔ (b ≡ false)
   unfolding numbered
   only-20 b a n f g = (λ e. cases b (λ q. absurd (clash (ap (oneOf ns) (sym e) ∙ f q) n)) (λ q. q), λ q. rw (g q))
@@ -493,7 +493,7 @@ pub tagList-20 : (gs : Table Tag) (slots : ℕ) → tagsFormed gs ≡ false → 
 unfolding tagList
 tagList-20 gs slots broken = rw broken
 
--- sync: 17 is asked
+-- the numbers that sync asks for, 17 among them
 sync-asks : (vs : Table Volume) (cs : Table Commit) (vid : Id) → volumesFormed vs && commitsFormed cs ≡ true → numbered (4 ∷ 16 ∷ 8 ∷ 17 ∷ 0 ∷ []) (sync vs cs vid) ≡ true
 unfolding sync any
 sync-asks vs cs vid formed =
@@ -502,7 +502,7 @@ sync-asks vs cs vid formed =
     (row-need ns (getVolume vs vid) 4 _ refl (λ v.
     row-then ns (changed (remoteOf (v .sync)) (latestLsn cs (v .remote))) _ (row-changed ns (remoteOf (v .sync)) (latestLsn cs (v .remote)) refl refl) (λ there. row-syncBy ns vs cs v there refl refl refl refl)))
 
--- and never given
+-- the numbers that sync gives: 17 is never given
 pub sync-numbers : (vs : Table Volume) (cs : Table Commit) (vid : Id) → volumesFormed vs && commitsFormed cs ≡ true → numbered (4 ∷ 16 ∷ 8 ∷ 0 ∷ []) (sync vs cs vid) ≡ true
 unfolding any numbered
 sync-numbers vs cs vid formed = go (sync vs cs vid) refl (sync-asks vs cs vid formed)

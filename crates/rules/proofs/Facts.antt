@@ -1,17 +1,21 @@
--- What the tests of the rules say, as facts.
+-- What the tests of the rules say, as facts, and how many ranges a volume's snapshot has.
 use Prim.Native.Nat.{ℕ, _≤_, _<_, Ordering·lt}
 use mathlib.Core.Path.{_≡_, refl, ap, _∙_}
-use mathlib.Core.Bool.{true, _&&_}
+use mathlib.Core.Option.{Option, none, some}
+use mathlib.Core.Bool.{Bool, true, false, cond, _&&_}
+use native.Mathlib.Omega.{arith}
 use lib.Dec.{leb, eqb, isEq}
+use lib.ListN.{length}
 use borrow.Author.Tests.{leb-true, eqb-true, le-leb, eq-eqb}
 use Rattle.octets.specs.declared.Order.{Order}
 use Rattle.octets.specs.declared.Order.the-variants.{Less, Equal, Greater}
 use Rattle.octets.specs.Order.{lex, ordering, isEqual}
 use Rattle.core.specs.Orders.{bytes, logLsn, logPageLsn}
-use Rattle.rules.specs.Records.{Id, Commit, Entry, Range, LogLsn}
-use Rattle.rules.specs.Tables.{sameId}
+use Rattle.rules.specs.Records.{Id, Commit, Entry, Range, LogLsn, Volume}
+use Rattle.rules.specs.Tables.{Table, sameId, getCommit, latest}
 use Rattle.rules.specs.Walk.{inRange}
 use Rattle.rules.specs.Search.{entryIn}
+use Rattle.rules.specs.Snapshots.{watermarkOf, remoteOf, below, remotePath, remoteTo, remoteSnapshot, localSnapshot, snapshotBy, snapshotOf}
 use Rattle.core.proofs.OrderLaws.{equal, lt-up, bytes-lawful, up-lawful, ordering-lex}
 use Rattle.rules.proofs.TableLaws.{eq-of, and-fst, and-snd, and-both}
 
@@ -81,3 +85,30 @@ pub in-entry : (r : Range) (p : ℕ) (e : Entry) → EntryIn r p e → entryIn r
 unfolding entryIn
 in-entry r p e h =
     and-both (and-both (and-both (id-same (r .log) (e .log) (h .log)) (eq-eqb p (e .page) (h .page))) (le-leb (r .start) (e .lsn) (h .start))) (le-leb (e .lsn) (r .end) (h .end))
+
+-- ---- a volume's snapshot has at most two ranges, so no more than fit
+
+module _ (cs : Table Commit) (v : Volume) where
+  few-path : (o : Option ℕ) → length (remotePath v o) ≤ 1
+  few-path none = omega arith
+  few-path (some n) = omega arith
+
+  few-to : (o : Option Commit) → length (remoteTo v o .path) ≤ 8
+  few-to none = omega arith
+  few-to (some c) = omega arith
+
+  few-remote : (o : Option ℕ) → length (remoteSnapshot cs v o .path) ≤ 8
+  few-remote none = omega arith
+  few-remote (some n) = few-to (getCommit cs (v .remote) n)
+
+  few-by : (o : Option Commit) → length (snapshotBy cs v o .path) ≤ 8
+  few-by none = few-remote (remoteOf (v .sync))
+  few-by (some c) = go (below (watermarkOf (v .sync)) (c .lsn))
+    where
+      go : (b : Bool) → length (cond b (localSnapshot v c) (remoteSnapshot cs v (remoteOf (v .sync))) .path) ≤ 8
+      go true = omega (arith, few-path (remoteOf (v .sync)))
+      go false = few-remote (remoteOf (v .sync))
+
+  pub few-ranges : length (snapshotOf cs v .path) ≤ 8
+  unfolding snapshotOf
+  few-ranges = few-by (latest cs (v .local))

@@ -73,7 +73,7 @@ none-at cs log lsn e =
     (λ c q. let s = get-some commitKey logLsn logLsn-lawful (log, lsn) (cs .rows) q in absurd (latest-none cs log e c (s .0) (λ i. s .1 i .0)))
 
 -- nor is there one above the latest
-pub none-above : (cs : Table Commit) (log : Id) (lsn : ℕ) → inOrder commitKey logLsn (cs .rows) ≡ true → ((m : ℕ) → latestLsn cs log ≡ some m → m < lsn) → getCommit cs log lsn ≡ none
+none-above : (cs : Table Commit) (log : Id) (lsn : ℕ) → inOrder commitKey logLsn (cs .rows) ≡ true → ((m : ℕ) → latestLsn cs log ≡ some m → m < lsn) → getCommit cs log lsn ≡ none
 none-above cs log lsn up h =
     options (getCommit cs log lsn) (λ q. q)
     (λ c q. let s = get-some commitKey logLsn logLsn-lawful (log, lsn) (cs .rows) q in

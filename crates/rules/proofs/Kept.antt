@@ -66,7 +66,11 @@ unfolding syncForm
 sync-at-form none h = refl
 sync-at-form (some n) h = and-both h refl
 
--- a sync point's LSNs are in form
+-- a volume in form has its sync point in form, and a sync point in form its LSNs
+pub sync-form : (v : Volume) → volumeForm v ≡ true → given syncForm (v .sync) ≡ true
+unfolding volumeForm
+sync-form v e = search (and-fst, and-snd)
+
 pub mark-form : (s : Option SyncPoint) → given syncForm s ≡ true → given lsnForm (watermarkOf s) ≡ true
 unfolding syncForm
 mark-form none e = refl
@@ -79,7 +83,7 @@ remote-form (some s) e = and-fst (lsnForm (s .remote)) (given lsnForm (s .waterm
 
 -- ---- a volume in place of the one of its identifier
 
-pub replaced : (vs : Table Volume) (vid : Id) (v w : Volume) → volumesFormed vs ≡ true → getVolume vs vid ≡ some v → w .vid ≡ v .vid → volumeForm w ≡ true
+replaced : (vs : Table Volume) (vid : Id) (v w : Volume) → volumesFormed vs ≡ true → getVolume vs vid ≡ some v → w .vid ≡ v .vid → volumeForm w ≡ true
     → volumesFormed (store volumeKey bytes w vs) ≡ true
 replaced vs vid v w f e s h =
     let k = formed-parts volumeKey bytes bytes-lawful volumeForm vs f in
@@ -87,7 +91,7 @@ replaced vs vid v w f e s h =
     formed-store volumeKey bytes bytes-lawful volumeForm w vs h f
     (fits-replace volumeKey bytes bytes-lawful w v vs (k .up) (ap (λ (i : Id). get volumeKey bytes i (vs .rows)) (s ∙ sym (q .1)) ∙ e) (k .fit))
 
--- with another pending commit in form, or none, and after the push of its own, it is too
+-- a volume in form stays in form with another pending commit in form, or with none, and after the push of its own pending commit
 pub pending-form : (v : Volume) (p : Option Pending) → volumeForm v ≡ true → given pendingForm p ≡ true → volumeForm (withPending v p) ≡ true
 unfolding volumeForm
 pending-form v p f h = and-both (and-fst (idForm (v .vid) && idForm (v .local) && idForm (v .remote) && given syncForm (v .sync)) (given pendingForm (v .pending)) f) h
@@ -105,17 +109,16 @@ pushed-form v p f e =
     let c : lsnForm (p .commit) ≡ true = search (and-fst, and-snd) in
     and-both (and-both a (and-both c l)) refl
 
--- with its sync point moved a volume is in form still
+-- a volume in form stays in form when its sync point moves
 pub moved-form : (v : Volume) (n : ℕ) → volumeForm v ≡ true → lsnForm n ≡ true → volumeForm (movedVolume v n) ≡ true
 unfolding volumeForm syncForm
 moved-form v n f l =
     let a : idForm (v .vid) && idForm (v .local) && idForm (v .remote) ≡ true = search (and-fst, and-snd) in
     let d : given pendingForm (v .pending) ≡ true = search (and-fst, and-snd) in
-    let w : given syncForm (v .sync) ≡ true = search (and-fst, and-snd) in
-    and-both (and-both a (and-both l (mark-form (v .sync) w))) d
+    and-both (and-both a (and-both l (mark-form (v .sync) (sync-form v f)))) d
 
 -- a new volume is in form
-pub new-form : (x : Ids) → idsTyped x ≡ true → volumeForm (newVolume x) ≡ true
+new-form : (x : Ids) → idsTyped x ≡ true → volumeForm (newVolume x) ≡ true
 unfolding volumeForm
 new-form x h = and-both (and-both h refl) refl
 
@@ -317,7 +320,7 @@ unfolding recover
 recover-kept vs g vid b = rw (b .0, b .1) (options (getVolume vs vid) (λ q. rw q b) (λ v is. rw is (recoverPending-kept vs g vid v (v .pending) b is refl)))
 
 -- the head of changes is the log's latest LSN
-pub changed-head : (b h : Option ℕ) (r : ℕ × ℕ) → changed b h ≡ done (some r) → h ≡ some (r .1)
+changed-head : (b h : Option ℕ) (r : ℕ × ℕ) → changed b h ≡ done (some r) → h ≡ some (r .1)
 unfolding changed
 changed-head none none r e = absurd (missing refl (done-same e))
 changed-head none (some h) r e = ap {B = Option ℕ} some (λ i. option-same (done-same e) i .1)

@@ -15,7 +15,7 @@ use Rattle.rules.proofs.TableLaws.{options, clash, first-some, first-no
 use Rattle.rules.proofs.Facts.{same-id, id-same, falls}
 
 -- in a table by log up and LSN down, of the records of one log that pass a test the first has the highest LSN
-pub first-highest : {R : Type 0} (key : R → LogLsn) (f : R → Bool) (l : List R) {x y : R} → inOrder key logLsn l ≡ true → first f l ≡ some x → List·Memᴰ y l
+first-highest : {R : Type 0} (key : R → LogLsn) (f : R → Bool) (l : List R) {x y : R} → inOrder key logLsn l ≡ true → first f l ≡ some x → List·Memᴰ y l
     → f y ≡ true → key x .0 ≡ key y .0 → key y .1 ≤ key x .1
 first-highest key f l {x} {y} up e m h s =
     ⊎-elim (λ o. omega (arith, falls (key x) (key y) s o)) (λ q. omega (arith, ap (λ z. key z .1) q)) (first-least key logLsn logLsn-lawful f l up e m h)
@@ -35,7 +35,7 @@ latest-some cs log c up e =
 pub latest-none : (cs : Table Commit) (log : Id) → latest cs log ≡ none → (d : Commit) → List·Memᴰ d (cs .rows) → log ≡ d .log → ⊥
 latest-none cs log e d m h = clash (id-same log (d .log) h) (first-none (λ (d : Commit). sameId log (d .log)) (cs .rows) e m)
 
--- and whoever has the highest LSN is it
+-- the commit of a log that has the highest LSN is its latest
 pub latest-is : (cs : Table Commit) (log : Id) (c : Commit) → inOrder commitKey logLsn (cs .rows) ≡ true → Latest cs log c → latest cs log ≡ some c
 latest-is cs log c up h =
     options (latest cs log) (λ n. absurd (latest-none cs log n c (h .stored) (h .named)))

@@ -1,27 +1,18 @@
--- For code that goes through a list: what `first`, `all`, `any`, `those`, `put` and `inOrder` are at a place of it. A loop's invariant is an equation such as
--- `first f l ≡ first f (drop i l)`; these are its steps. Key order is tested neighbour by neighbour, and a record is put behind all that are below it.
+-- For code that goes through a list: what `all`, `any`, `put` and `inOrder` are at a place of it. A loop's invariant is an equation such as
+-- `all f l ≡ all f (drop i l)`; these are its steps. Key order is tested neighbour by neighbour, and a record is put behind all that are below it.
 use Prim.Native.Nat.{ℕ, suc, _<_, Ordering, Ordering·lt, Ordering·gt}
 use mathlib.Core.Path.{_≡_, refl, sym, ap, _∙_}
 use mathlib.Core.List.{List, [], _∷_, _++_}
-use mathlib.Core.Option.{some}
-use mathlib.Core.Bool.{Bool, true, false, _&&_, _||_}
+use mathlib.Core.Bool.{Bool, true, _&&_, _||_}
 use lib.ListN.{length, getD, drop}
 use lib.Seq.{drop-cons}
 use Rattle.core.specs.Orders.{isLt}
-use Rattle.rules.specs.Lists.{first, those, all, any}
+use Rattle.rules.specs.Lists.{all, any}
 use Rattle.rules.specs.Tables.{inOrder, put}
 use Rattle.core.proofs.OrderLaws.{Lawful, equal, lt≢eq}
 use Rattle.rules.proofs.TableLaws.{cases, orders, lt-of, and-fst, and-snd, and-both, all-weaken, clash}
 
 module _ {A : Type 0} (f : A → Bool) (l : List A) (d : A) (i : ℕ) (h : i < length l) where
-  pub first-yes : f (getD l i d) ≡ true → first f (drop i l) ≡ some (getD l i d)
-  unfolding first
-  first-yes e = rw (drop-cons l i d h, e)
-
-  pub first-no : f (getD l i d) ≡ false → first f (drop i l) ≡ first f (drop (suc i) l)
-  unfolding first
-  first-no e = rw (drop-cons l i d h, e)
-
   pub all-step : all f (drop i l) ≡ f (getD l i d) && all f (drop (suc i) l)
   unfolding all
   all-step = rw (drop-cons l i d h)
@@ -29,14 +20,6 @@ module _ {A : Type 0} (f : A → Bool) (l : List A) (d : A) (i : ℕ) (h : i < l
   pub any-step : any f (drop i l) ≡ f (getD l i d) || any f (drop (suc i) l)
   unfolding any
   any-step = rw (drop-cons l i d h)
-
-  pub those-yes : f (getD l i d) ≡ true → those f (drop i l) ≡ getD l i d ∷ those f (drop (suc i) l)
-  unfolding those
-  those-yes e = rw (drop-cons l i d h, e)
-
-  pub those-no : f (getD l i d) ≡ false → those f (drop i l) ≡ those f (drop (suc i) l)
-  unfolding those
-  those-no e = rw (drop-cons l i d h, e)
 
 module _ {R K : Type 0} (key : R → K) (order : K → K → Ordering) where
   -- each record is below the next: what a loop tests
@@ -80,10 +63,6 @@ module _ {R K : Type 0} (key : R → K) (order : K → K → Ordering) where
       where
         above : (a b : K) → order a b ≡ Ordering·lt → order b a ≡ Ordering·gt
         above a b h = orders (order b a) (λ k. absurd (lt≢eq (sym (O .trans a b a h k) ∙ O .self a))) (λ k. absurd (lt≢eq (sym h ∙ equal O (sym (O .same b a k))))) (λ k. k)
-
-    pub put-same : (r x : R) (ys : List R) → key r ≡ key x → put key order r (x ∷ ys) ≡ r ∷ ys
-    unfolding put
-    put-same r x ys e = rw (equal O e)
 
     pub put-before : (r x : R) (ys : List R) → order (key r) (key x) ≡ Ordering·lt → put key order r (x ∷ ys) ≡ r ∷ x ∷ ys
     unfolding put

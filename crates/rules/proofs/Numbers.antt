@@ -163,7 +163,7 @@ recover-8 vs g vid = (to, λ d. rw (d .volumes, d .logs, d .is) (from d (d .volu
         (λ f. options (getVolume vs vid) (λ q. absurd (let z : 4 ≡ 8 = rw (f, q) at e in omega arith)) (λ v is. by-pending f v is (v .pending) refl (rw (f, is) at e)))
         (λ f. absurd (let z : 20 ≡ 8 = rw f at e in omega arith))
 
--- and then the pending commit is dropped, and nothing else changes
+-- where recover answers 8 the pending commit is dropped, and nothing else changes
 pub recover-dropped : (vs : Table Volume) (g : Logs) (vid : Id) (d : Diverged vs g vid) → recover vs g vid ≡ (8, store volumeKey bytes (withPending (d .volume) none) vs, g)
 unfolding recover
 recover-dropped vs g vid d = rw (d .volumes, d .logs, d .is) (from (d .volume .pending) (d .prepared))

@@ -96,7 +96,7 @@ pages-listed s e = listed-from 0 s (omega arith) (search (and-fst, and-snd)) (se
 
 -- ---- their number and the first
 
-pub snoc : (a n : ℕ) → numbers a (suc n) ≡ numbers a n ++ ((a + n) ∷ [])
+snoc : (a n : ℕ) → numbers a (suc n) ≡ numbers a n ++ ((a + n) ∷ [])
 unfolding numbers
 snoc a zero = let e : a + 0 ≡ a = omega arith in rw e
 snoc a (suc n) = let e : suc a + n ≡ a + suc n = omega arith in rw (← e) (ap {B = List ℕ} (λ l. a ∷ l) (snoc (suc a) n))
@@ -125,7 +125,7 @@ first-lowest f (suc n) =
 pub size-counts : (s : Pages) → normalForm s ≡ true → size s ≡ count (holds s) (2 ^ 32)
 size-counts s e = ap length (pages-listed s e) ∙ counted (holds s) (2 ^ 32)
 
--- its first page, or nothing
+-- the first page of a set, or nothing
 pub first-page : (s : Pages) → normalForm s ≡ true → firstPage s ≡ lowest (holds s) (2 ^ 32)
 first-page s e = ap head (pages-listed s e) ∙ first-lowest (holds s) (2 ^ 32)
 

@@ -9,12 +9,12 @@ use native.Mathlib.Nat.{div-eq-of-lt, mod-lt, zero-mod, lt-of-lt-of-le}
 use lib.Dec.{leb, ltb, eqb, lit<}
 use lib.ListN.{length}
 use lib.Arith.{digits-mod}
-use lib.Bits.{bitAnd, bitXor, and-shr, xor-shr, and-step, xor-step, differ, and-zero-l, xor-zero-l}
+use lib.Bits.{bitAnd, bitXor, and-shr, xor-shr, xor-step, differ, and-zero-l, xor-zero-l}
 use lib.Pow.{field, mod-mod-pow, pow-mono, pow-pos}
 use borrow.Author.Tests.{eqb-true, eqb-false, leb-true, leb-false, le-leb, lt-leb, lt-ltb, le-ltb, ltb-true, ltb-false, eq-eqb, ne-eqb, not-true}
 use Rattle.core.specs.Numbers.{lastPage}
 use Rattle.pageset.specs.Sets.{bit, maskAt, holds, rising, windowForm, windowForms, normalForm}
-use Rattle.pageset.proofs.BitLaws.{bit-none, bit-and}
+use Rattle.pageset.proofs.BitLaws.{bit-none, bit-and, and-odd}
 use Rattle.rules.specs.Lists.{any, all, those}
 use Rattle.rules.specs.Records.{Pages}
 use Rattle.rules.specs.Pages.{numbers, pagesIn, isEmpty, masked, upTo, truncated, common, without, minus}
@@ -50,13 +50,10 @@ low-without (suc zero) (suc zero) p q = (lit< tt, refl)
 low-without (suc zero) (suc (suc y)) p q = absurd (omega arith)
 low-without (suc (suc x)) y p q = absurd (omega arith)
 
-and-lowest : (a b : ℕ) → bitAnd a b % 2 ≡ min (a % 2) (b % 2)
-and-lowest a b = ap (λ (x : ℕ). x % 2) (and-step a b) ∙ digits-mod (bitAnd (a / 2) (b / 2)) (omega arith)
-
 without-lowest : (a b : ℕ) → without a b % 2 ≡ differ (a % 2) (min (a % 2) (b % 2))
 without-lowest a b =
     ap (λ (x : ℕ). x % 2) (xor-step a (bitAnd a b))
-    ∙ ap (λ (d : ℕ). (bitXor (a / 2) (bitAnd a b / 2) * 2 + differ (a % 2) d) % 2) (and-lowest a b)
+    ∙ ap (λ (d : ℕ). (bitXor (a / 2) (bitAnd a b / 2) * 2 + differ (a % 2) d) % 2) (and-odd a b)
     ∙ digits-mod (bitXor (a / 2) (bitAnd a b / 2)) (low-without (a % 2) (b % 2) (omega arith) (omega arith) .0)
 
 -- the bits of m that k has not

@@ -49,7 +49,7 @@ logs-room g cs f =
     rw (commits-all g cs, checkpoints-all g cs, index-all g cs, fits-storeAll commitKey logLsn logLsn-lawful cs (g .commits) (k .commits .up), fits-storeAll checkpointKey logLsn logLsn-lawful (each checkpointsOf cs) (g .checkpoints) (k .checkpoints .up))
     (ap (λ (b : Bool). hasRoom commitKey logLsn (g .commits) cs && hasRoom checkpointKey logLsn (g .checkpoints) (each checkpointsOf cs) && b) (fits-storeAll entryKey logPageLsn logPageLsn-lawful (each entriesOf cs) (g .index) (k .index .up)))
 
-pub write-room : (g : Logs) (c : Commit) → logsFormed g ≡ true → logsFit (write g c) ≡ logsRoom g (c ∷ [])
+write-room : (g : Logs) (c : Commit) → logsFormed g ≡ true → logsFit (write g c) ≡ logsRoom g (c ∷ [])
 unfolding writeAll
 write-room g c f = logs-room g (c ∷ []) f
 

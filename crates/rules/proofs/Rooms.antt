@@ -125,7 +125,7 @@ module _ {R K : Type 0} (key : R → K) (order : K → K → Ordering) where
     length-putAll (r ∷ rs) l h =
         omega (arith, length-putAll rs (put key order r l) (inOrder-put key order O r l h), length-put r l h, news-same rs (put key order r l) (r ∷ l) (λ k. held-put k r l), news-first r rs l)
 
-    -- so the tables afterwards fit exactly if records held plus new keys do not exceed capacity
+    -- the tables afterwards fit exactly if records held plus new keys do not exceed capacity
     pub fits-storeAll : (rs : List R) (t : Table R) → inOrder key order (t .rows) ≡ true → fits (storeAll key order rs t) ≡ hasRoom key order t rs
     unfolding fits hasRoom
     fits-storeAll rs t h = ap (λ (n : ℕ). leb n (min (t .room) 65535)) (length-putAll rs (t .rows) h)

@@ -32,7 +32,7 @@ use Rattle.rules.proofs.AnswerLaws.{done-same}
 use Rattle.rules.proofs.Lookups.{latest-some, latest-none, latest-is}
 use Rattle.rules.proofs.Search.{holderIn, search-first}
 use Rattle.rules.proofs.Write.{logs-rows}
-use Rattle.rules.proofs.Kept.{volume-form, next-above, save-done, save-kept}
+use Rattle.rules.proofs.Kept.{volume-form, sync-form, next-above, save-done, save-kept}
 use Rattle.rules.proofs.Index.{save-exact}
 
 -- no stored commit of the log is at or above the new LSN
@@ -94,10 +94,6 @@ new-valid v (some y) lsn count f l a =
     }
 
 -- ---- the theorem
-
-sync-form : (v : Volume) → volumeForm v ≡ true → given syncForm (v .sync) ≡ true
-unfolding volumeForm
-sync-form v e = search (and-fst, and-snd)
 
 logs-parts : (g : Logs) → logsFormed g ≡ true → (commitsFormed (g .commits) ≡ true) × (indexFormed (g .index) ≡ true)
 unfolding logsFormed

@@ -11,6 +11,7 @@ use lib.ListN.{length}
 use borrow.Author.Tests.{leb-true, le-leb, eqb-true, eqb-false, eq-eqb, ne-eqb}
 use Rattle.core.specs.Orders.{isLt}
 use Rattle.pageset.proofs.FormLaws as Form
+pub use mathlib.Core.List.{map-append}
 pub use Rattle.pageset.proofs.FormLaws.{and-fst, and-snd}
 use Rattle.rules.specs.Lists.{first, those, all, any, isSome, isNone}
 use Rattle.rules.specs.Tables.{inOrder, get, put, putAll, Table, over, fits, formed, store, storeAll, remove}
@@ -104,10 +105,6 @@ module _ {A : Type 0} where
   those-append f [] m = refl
   those-append f (y ∷ ys) m = cases (f y) (λ q. rw (q, those-append f ys m)) (λ q. rw q (those-append f ys m))
 
-  pub map-append : {B : Type 0} (f : A → B) (l m : List A) → map f (l ++ m) ≡ map f l ++ map f m
-  map-append f [] m = refl
-  map-append f (y ∷ ys) m = rw (map-append f ys m)
-
   pub all-map : {B : Type 0} (f : B → Bool) (g : A → B) (l : List A) → all f (map g l) ≡ all (λ x. f (g x)) l
   unfolding all
   all-map f g [] = refl
@@ -137,13 +134,6 @@ module _ {A : Type 0} where
   unfolding first any
   first-any f [] = refl
   first-any f (y ∷ ys) = cases (f y) (λ q. rw q) (λ q. rw q (first-any f ys))
-
-  pub mem-those : (f : A → Bool) (l : List A) {x : A} → List·Memᴰ x l → f x ≡ true → List·Memᴰ x (those f l)
-  unfolding those
-  mem-those f [] m e = absurd (List·Memᴰ·not-nil m)
-  mem-those f (y ∷ ys) m e =
-      cases (f y) (λ q. rw q (⊎-elim (λ h. List·Memᴰ·head h) (λ h. List·Memᴰ·tail (mem-those f ys h e)) (List·Memᴰ·cases-cons m)))
-      (λ q. rw q (⊎-elim (λ h. absurd (clash (rw h at e) q)) (λ h. mem-those f ys h e) (List·Memᴰ·cases-cons m)))
 
   pub all-those : (f g : A → Bool) (l : List A) → all f l ≡ true → all f (those g l) ≡ true
   unfolding all those
@@ -266,7 +256,7 @@ module _ {R K : Type 0} (key : R → K) (order : K → K → Ordering) (O : Lawf
   unfolding formed
   formed-parts form t e = record { fit = search (and-fst, and-snd); up = search (and-fst, and-snd); forms = search (and-fst, and-snd) }
 
-  pub parts-formed : (form : R → Bool) (t : Table R) → Formed form t → formed key order form t ≡ true
+  parts-formed : (form : R → Bool) (t : Table R) → Formed form t → formed key order form t ≡ true
   unfolding formed
   parts-formed form t h = and-both (and-both (h .fit) (h .up)) (h .forms)
 

@@ -1,14 +1,14 @@
 -- What writing a commit keeps. Forms: each new record has its form, so rows in order and in form stay so. The exact index: the entries of a commit
 -- are those of its log and LSN and of its pages, so after a write the index lists them and what it listed; where the commit replaces another, every
 -- page of that one must be a page of the new one.
-use Prim.Native.Nat.{ℕ, zero, suc, _≤_, compare, Ordering, Ordering·lt, Ordering·eq, Ordering·gt}
+use Prim.Native.Nat.{ℕ, compare, Ordering, Ordering·lt, Ordering·eq, Ordering·gt}
 use mathlib.Core.Path.{_≡_, refl, sym, ap, _∙_}
 use mathlib.Core.List.{List, [], _∷_}
 use mathlib.Core.Option.{Option, none, some}
 use mathlib.Core.Bool.{Bool, true, false, _&&_, and-true, and-false}
-use native.Mathlib.Omega.{arith}
 use lib.Dec.{isEq, eqb, leb}
 use lib.ListN.{length, take}
+use lib.Seq.{take-all}
 use borrow.Author.Tests.{leb-true}
 use Rattle.core.specs.Numbers.{counts, lastLsn}
 use Rattle.pageset.specs.Sets.{normalForm}
@@ -54,7 +54,7 @@ checkpoints-form c e =
     all-map checkpointForm (λ (n : ℕ). record { log = c .log; lsn = n }) (c .checkpoints)
     ∙ all-weaken lsnForm _ (c .checkpoints) (λ p h. and-both i h) (search (and-fst, and-snd))
 
--- its lists are in form
+-- the lists of a commit in form are in form
 pub form-lists : (c : Commit) → commitForm c ≡ true → commitLists c ≡ true
 unfolding commitForm commitLists segmentForm
 form-lists c e =
@@ -107,12 +107,6 @@ all-both f g h [] k p q = refl
 all-both f g h (x ∷ l) k p q =
     and-both (k x (and-fst (f x) (all f l) p) (and-fst (g x) (all g l) q)) (all-both f g h l k (and-snd (f x) (all f l) p) (and-snd (g x) (all g l) q))
 
-take-short : (n : ℕ) (l : List ℕ) → length l ≤ n → take n l ≡ l
-take-short zero [] h = refl
-take-short (suc n) [] h = refl
-take-short zero (x ∷ l) h = absurd (omega arith)
-take-short (suc n) (x ∷ l) h = ap {B = List ℕ} (λ m. x ∷ m) (take-short n l (omega arith))
-
 seg-form : (s : Segment) → idForm (s .sid) ≡ true → listsForm s ≡ true → segmentForm s ≡ true
 unfolding segmentForm
 seg-form s a b = and-both a b
@@ -122,7 +116,7 @@ unfolding commitLsns commitLists commitForm lsnForm
 written-form c t one three =
     let n : leb (length (c .checkpoints)) 8 ≡ true = search (and-fst, and-snd) in
     let k : all counts (take 8 (c .checkpoints)) ≡ true = search (and-fst, and-snd) in
-    let k8 : all counts (c .checkpoints) ≡ true = rw (take-short 8 (c .checkpoints) (leb-true (length (c .checkpoints)) 8 n)) at k in
+    let k8 : all counts (c .checkpoints) ≡ true = rw (take-all 8 (c .checkpoints) (leb-true (length (c .checkpoints)) 8 n)) at k in
     let i : idForm (c .log) ≡ true = search (and-fst, and-snd) in
     let a : counts (c .lsn) ≡ true = search (and-fst, and-snd) in
     let b : leb (c .lsn) lastLsn ≡ true = search (and-fst, and-snd) in
@@ -176,7 +170,7 @@ exact-keeps g c up exact keeps log p lsn =
     (λ k. rw k))
 
 -- the commit of its key, once written
-pub own-commit : (g : Logs) (c : Commit) → getCommit (write g c .commits) (c .log) (c .lsn) ≡ some c
+own-commit : (g : Logs) (c : Commit) → getCommit (write g c .commits) (c .log) (c .lsn) ≡ some c
 unfolding write
 own-commit g c = get-put commitKey logLsn logLsn-lawful (commitKey c) c (g .commits .rows) ∙ rw (equal logLsn-lawful {a = commitKey c} refl)
 
@@ -186,10 +180,10 @@ exact-write g c up exact lost =
     exact-keeps g c up exact (λ p h.
     cases (holdsAt p (getCommit (g .commits) (c .log) (c .lsn))) (λ k. absurd (clash (ap (holdsAt p) (sym (own-commit g c)) ∙ lost (c .log) p (c .lsn) k) h)) (λ k. k))
 
--- so does a write at a new key
+-- a write at a new key keeps the index exact
 pub exact-new : (g : Logs) (c : Commit) → setRises c ≡ true → Exact (g .commits) (g .index) → getCommit (g .commits) (c .log) (c .lsn) ≡ none → Exact (write g c .commits) (write g c .index)
 exact-new g c up exact none-there = exact-keeps g c up exact (λ p h. rw none-there)
 
--- and writing again what is stored
+-- writing again what is stored keeps the index exact
 pub exact-again : (g : Logs) (c : Commit) → setRises c ≡ true → Exact (g .commits) (g .index) → getCommit (g .commits) (c .log) (c .lsn) ≡ some c → Exact (write g c .commits) (write g c .index)
 exact-again g c up exact there = exact-keeps g c up exact (λ p h. rw there h)

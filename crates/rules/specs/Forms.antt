@@ -41,7 +41,7 @@ hashForm h = bytesForm 32 h
 unfoldable pub nameLength : Name → Bool
 nameLength n = leb 1 (length n) && leb (length n) 32
 
--- and each is a byte
+-- a tag name in form: 1 to 32 bytes, each below 256
 unfoldable pub nameForm : Name → Bool
 nameForm n = nameLength n && all (λ x. ltb x 256) n
 

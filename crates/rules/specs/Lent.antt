@@ -65,7 +65,7 @@ SameForChange t u (unmarkingAll sid a b) = t .presence ≡ u .presence
 SameForChange t u (deletingTag name) = t .tags ≡ u .tags
 SameForChange t u (replacingTag name vid) = t .tags ≡ u .tags
 
--- and on what the reading call is lent
+-- two states of the tables that agree on what the reading call is lent
 abbrev pub SameForReading : Tables → Tables → Reading → Type 0
 SameForReading t u (takingSnapshot vid) = (t .volumes ≡ u .volumes) × (t .logs .commits ≡ u .logs .commits)
 SameForReading t u (checkingLatest vid s) = (t .volumes ≡ u .volumes) × (t .logs .commits ≡ u .logs .commits)

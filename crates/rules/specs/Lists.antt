@@ -9,27 +9,27 @@ module _ {A : Type 0} where
   first f [] = none
   first f (x ∷ xs) = cond (f x) (some x) (first f xs)
 
-  -- those that pass it, in their order
+  -- the records that pass the test, in their order
   unfoldable pub those : (A → Bool) → List A → List A
   those f [] = []
   those f (x ∷ xs) = cond (f x) (x ∷ those f xs) (those f xs)
 
-  -- each passes it
+  -- each record passes the test
   unfoldable pub all : (A → Bool) → List A → Bool
   all f [] = true
   all f (x ∷ xs) = f x && all f xs
 
-  -- some one passes it
+  -- some record passes the test
   unfoldable pub any : (A → Bool) → List A → Bool
   any f [] = false
   any f (x ∷ xs) = f x || any f xs
 
-  -- it is there
+  -- what may be missing is there
   abbrev pub isSome : Option A → Bool
   isSome none = false
   isSome (some x) = true
 
-  -- it is missing
+  -- what may be missing is not there
   abbrev pub isNone : Option A → Bool
   isNone none = true
   isNone (some x) = false

@@ -62,7 +62,7 @@ common s u = masked (λ q m. bitAnd m (maskAt u q)) s
 abbrev pub without : ℕ → ℕ → ℕ
 without m k = bitXor m (bitAnd m k)
 
--- and removes them from the left set
+-- `cut` removes the common pages from the left set
 unfoldable pub minus : Pages → Pages → Pages
 minus s u = masked (λ q m. without m (maskAt u q)) s
 

@@ -92,7 +92,7 @@ P10 = snapshot volumes (commits (bare 10 5 20 ∷ [])) (ident 1) ≡ done (recor
 abbrev pub P11 : Type 0
 P11 = snapshot volumes (commits (bare 10 3 20 ∷ bare 11 7 30 ∷ [])) (ident 1) ≡ done (record { path = range 11 1 7 ∷ []; count = 30 })
 
--- the same, commit 7 not stored: empty
+-- local latest 3, remote commit 7 not stored: empty
 abbrev pub P12 : Type 0
 P12 = snapshot volumes (commits (bare 10 3 20 ∷ [])) (ident 1) ≡ done emptySnapshot
 
@@ -171,7 +171,7 @@ example =
 abbrev pub ok : ℕ → ℕ × Option LogLsn
 ok lsn = (0, some (ident 0x0a, lsn))
 
--- and what they print
+-- what the eight lines print
 abbrev pub EightLines : Type 0
 EightLines = run begin example ≡ (0, none) ∷ (0, none) ∷ ok 1 ∷ ok 1 ∷ ok 2 ∷ (7, none) ∷ ok 2 ∷ ok 2 ∷ []
 

@@ -80,7 +80,7 @@ checkpointRead ks log lsn = do
 abbrev pub lsnsIn : Table Commit → Range → List ℕ
 lsnsIn cs r = map (λ (c : Commit). c .lsn) (those (inRange r) (cs .rows))
 
--- and as a call, into a lent list of `slots` places
+-- the stored LSNs of a range as a call, into a lent list of `slots` places
 unfoldable pub storedLsns : Table Commit → ℕ → Range → Answer (List ℕ)
 storedLsns cs slots r = do
   ask (commitsFormed cs) 20

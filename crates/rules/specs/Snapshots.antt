@@ -85,7 +85,7 @@ rangeLatest cs v r =
 abbrev pub isRemote : Volume → Range → Bool
 isRemote v r = not (sameId (v .local) (r .log)) && sameId (v .remote) (r .log)
 
--- both or neither
+-- two tests that hold both or neither
 abbrev pub sameAnswer : Bool → Bool → Bool
 sameAnswer true b = b
 sameAnswer false b = not b

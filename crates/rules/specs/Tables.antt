@@ -62,11 +62,11 @@ module _ {R K : Type 0} (key : R → K) (order : K → K → Ordering) where
   abbrev pub store : R → Table R → Table R
   store r t = over t (put r (t .rows))
 
-  -- with several stored
+  -- a table with several records stored
   abbrev pub storeAll : List R → Table R → Table R
   storeAll rs t = over t (putAll rs (t .rows))
 
--- without the records that pass a test
+-- a table without the records that pass a test
 abbrev pub remove : {R : Type 0} → (R → Bool) → Table R → Table R
 remove f t = over t (those (λ r. not (f r)) (t .rows))
 

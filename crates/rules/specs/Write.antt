@@ -21,11 +21,11 @@ abbrev pub pagesOf : Option Segment → Pages
 pagesOf none = []
 pagesOf (some s) = s .pages
 
--- its checkpoints
+-- the checkpoints of a commit
 abbrev pub checkpointsOf : Commit → List Checkpoint
 checkpointsOf c = map (λ (n : ℕ). record { log = c .log; lsn = n }) (c .checkpoints)
 
--- one index entry per page
+-- the index entries of a commit, one for each page
 abbrev pub entriesOf : Commit → List Entry
 entriesOf c = map (λ (p : ℕ). record { log = c .log; page = p; lsn = c .lsn }) (pagesIn (pagesOf (c .segment)))
 

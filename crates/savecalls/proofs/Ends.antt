@@ -1,13 +1,14 @@
 -- The call: 20, the arguments, the plan, the store. What is refused by one of them is the answer, and leaves every byte as found; else the next decides.
-use Prim.Native.Nat.{ℕ, _≤_}
+use Prim.Native.Nat.{ℕ}
 use mathlib.Core.Path.{_≡_, refl, sym, ap, _∙_, subst}
 use mathlib.Core.List.{List}
 use mathlib.Core.Option.{Option, none, some}
 use mathlib.Core.Bool.{Bool, true, false, not, _&&_}
 use borrow.Author.Tests.{le-leb, eqb-true}
-use lib.Dec.{eqb, leb}
+use lib.Dec.{eqb}
 use lib.ListN.{length}
 use Rattle.core.specs.Answers.{Answer, refused, done, code, ask, need, _>>_, _>>=_}
+use Rattle.core.proofs.AskLaws.{stops}
 use Rattle.pageset.specs.Sets.{normalForm}
 use Rattle.rules.specs.Records.{Id, Pages, Present, Volume, Snapshot}
 use Rattle.rules.specs.Tables.{Table, getVolume, latestLsn, volumesFormed, presenceFormed}
@@ -16,10 +17,9 @@ use Rattle.rules.specs.Write.{Logs, logsFormed}
 use Rattle.rules.specs.Snapshots.{isLatest}
 use Rattle.rules.specs.Save.{lsnAfter, sidInUse, save}
 use Rattle.rules.proofs.TableLaws.{cases, and-both}
-use Rattle.layout.specs.Codecs.{Codec}
 use Rattle.layout.specs.Values.{setBytes}
 use Rattle.layout.specs.Tables.{volumesIn, commitsIn, presenceIn}
-use Rattle.layout.specs.Lent.{lent, after}
+use Rattle.layout.specs.Lent.{after}
 use Rattle.layout.proofs.LentLaws.{lent-no, lent-yes}
 use Rattle.rows.proofs.Rows.{formed-rules}
 use Rattle.rows.proofs.Tables as Layouts
@@ -95,11 +95,7 @@ module _ (vs cs ks es ps : List ℕ) (vid : Id) (snapshot : List ℕ) (count : �
 
     -- 1, 2, 3
     pub bad-arguments : (n : ℕ) → n ≡ code (argumentsIn snapshot pages (length out)) → (n ≡ 0 → ⊥) → saveOn vs cs ks es ps vid snapshot count sid pages out ≡ refused n
-    bad-arguments n e z = in-is ∙ go (argumentsIn snapshot pages (length out)) e
-      where
-        go : (a : Answer (Unit {0})) → n ≡ code a → (a >> rule) ≡ refused n
-        go (refused m) q = ap refused (sym q)
-        go (done x) q = absurd (z q)
+    bad-arguments n e z = in-is ∙ stops (argumentsIn snapshot pages (length out)) rule n e z
 
     module _ (h : 0 ≡ code (argumentsIn snapshot pages (length out))) where
       tables : Formed vs cs ks es ps

@@ -1,5 +1,5 @@
 -- What save asks of lent bytes: of the tables, one after another; of the arguments, in the order 1, 2, 3. Where all is well each test holds.
-use Prim.Native.Nat.{ℕ, _≤_}
+use Prim.Native.Nat.{ℕ}
 use mathlib.Core.Path.{_≡_, refl, sym, ap, _∙_}
 use mathlib.Core.List.{List}
 use mathlib.Core.Bool.{Bool, true, false, _&&_}
@@ -8,25 +8,23 @@ use borrow.Author.Tests.{eq-eqb, ne-eqb, eqb-true}
 use lib.Dec.{eqb}
 use lib.ListN.{length}
 use Rattle.octets.specs.Bytes.{part}
-use Rattle.octets.proofs.Places.{part-all}
-use Rattle.core.specs.Answers.{Answer, refused, done, code, ask, _>>_}
+use Rattle.octets.proofs.Places.{part-whole}
+use Rattle.core.specs.Answers.{Answer, done, code, ask, _>>_}
 use Rattle.pageset.specs.declared.PageSet.{PageSet}
 use Rattle.pageset.specs.Sets.{shown, normal, normalForm}
 use Rattle.rules.specs.Arguments.{snapshotLsns, snapshotOrder}
-use Rattle.rules.proofs.TableLaws.{and-fst, and-snd, and-both}
-use Rattle.layout.specs.Codecs.{Codec, inForm}
+use Rattle.rules.proofs.TableLaws.{and-fst, and-snd}
+use Rattle.layout.specs.Codecs.{inForm}
 use Rattle.layout.specs.Values.{setBytes, snapshotBytes}
 use Rattle.layout.specs.Tables.{volumesOk, commitsOk, checkpointsOk, indexOk, presenceOk}
 use Rattle.layout.proofs.HoldLaws.{in-form}
-use Rattle.volume.specs.Snapshots as Snap
 use Rattle.volume.specs.Snapshots.{snapshotSays, laid}
 use Rattle.volume.specs.declared.snapshot.Snapshot.{Snapshot as CodeSnapshot}
 use Rattle.arguments.specs.Snapshots.{snapshotIn, snapshotFormed}
-use Rattle.arguments.proofs.SnapshotLaws.{snapshot-size, laid-formed, in-few, arg-says}
+use Rattle.arguments.proofs.SnapshotLaws.{snapshot-size, arg-says}
 use Rattle.arguments.proofs.SetLaws.{set-size}
 use Rattle.setbytes.specs.Laid.{setLaid}
 use Rattle.setbytes.proofs.LaidLaws.{laid-normal, says-laid}
-use Rattle.viewcalls.proofs.CheckLaws.{form-len}
 use Rattle.writecalls.specs.Written.{logsOk}
 use Rattle.writecalls.proofs.Formed.{each-ok}
 use Rattle.savecalls.specs.Saving.{setFormed, saveOk, argumentsIn}
@@ -58,13 +56,10 @@ module _ (b : List ℕ) where
   unfolding setFormed
   set-short h = sym (ap (λ (t : Bool). t && inForm setBytes normalForm b) (ap (eqb (length b)) set-size ∙ ne-eqb (length b) 385 h))
 
-  all-of : length b ≡ 385 → part 0 385 b ≡ b
-  all-of e = ap (λ (n : ℕ). part 0 n b) (sym e) ∙ part-all b
-
   pub set-whole : length b ≡ 385 → inForm setBytes normalForm (part 0 385 b) ≡ setFormed b
   unfolding setFormed
   set-whole e =
-      ap (inForm setBytes normalForm) (all-of e)
+      ap (inForm setBytes normalForm) (part-whole 385 b e)
       ∙ sym (ap (λ (t : Bool). t && inForm setBytes normalForm b) (ap (eqb (length b)) set-size ∙ eq-eqb (length b) 385 e))
 
   module _ (e : setFormed b ≡ true) where
@@ -79,13 +74,8 @@ module _ (b : List ℕ) where
     -- the set by value that is read of it
     pub set-laid : (s : PageSet) → s ≡ setLaid (setBytes .read (part 0 385 b)) → (normal s ≡ true) × (shown s ≡ setBytes .read b)
     set-laid s h =
-        let q : s ≡ setLaid (setBytes .read b) = h ∙ ap (λ (x : List ℕ). setLaid (setBytes .read x)) (all-of set-long) in
+        let q : s ≡ setLaid (setBytes .read b) = h ∙ ap (λ (x : List ℕ). setLaid (setBytes .read x)) (part-whole 385 b set-long) in
         (ap normal q ∙ laid-normal (setBytes .read b) set-normal, ap shown q ∙ says-laid (setBytes .read b))
-
--- ---- the snapshot that an argument became has at most 8 ranges
-
-pub few-ranges : (b : List ℕ) (s : CodeSnapshot) → s ≡ laid (snapshotIn b) → s .len ≤ 8
-few-ranges b s e = form-len s (ap Snap.inForm e ∙ laid-formed (snapshotIn b) (in-few b))
 
 -- ---- 1, 2, 3
 

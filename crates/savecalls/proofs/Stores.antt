@@ -1,30 +1,29 @@
 -- What a save stores. Its commit's bytes are a commit in form, so `writecalls` writes the rules' commit; the table of commits after it is formed and is the rules', so
 -- the snapshot that is read of it is the rules' too. A snapshot has two ranges at most, so it is in form.
-use Prim.Native.Nat.{ℕ, _+_, _≤_}
+use Prim.Native.Nat.{ℕ}
 use mathlib.Core.Path.{_≡_, refl, sym, ap, ap₂, _∙_}
 use mathlib.Core.List.{List}
-use mathlib.Core.Option.{Option, none, some}
-use mathlib.Core.Bool.{Bool, true, false, cond, _&&_}
-use native.Mathlib.Omega.{arith}
+use mathlib.Core.Bool.{Bool, true, false, _&&_}
 use lib.ListN.{length}
 use Rattle.octets.specs.Bytes.{put}
 use Rattle.octets.proofs.Places as P
-use Rattle.core.specs.Answers.{Answer, refused, done, code, ask, _>>_}
+use Rattle.core.specs.Answers.{Answer, refused, done, ask, _>>_}
 use Rattle.core.specs.Orders.{logLsn}
-use Rattle.rules.specs.Records.{Id, Pages, Commit, Volume, Snapshot, commitKey}
+use Rattle.rules.specs.Records.{Id, Pages, Commit, Volume, commitKey}
 use Rattle.rules.specs.Forms.{commitForm}
-use Rattle.rules.specs.Tables.{Table, fits, store, getCommit, latest}
+use Rattle.rules.specs.Tables.{Table, fits, store}
 use Rattle.rules.specs.Write.{Logs, write, logsFit}
-use Rattle.rules.specs.Snapshots.{watermarkOf, remoteOf, below, remotePath, remoteTo, remoteSnapshot, localSnapshot, snapshotBy, snapshotOf}
+use Rattle.rules.specs.Snapshots.{snapshotOf}
 use Rattle.rules.specs.Save.{savedCommit, nowPresent}
-use Rattle.rules.proofs.TableLaws.{and-fst, and-snd}
-use Rattle.layout.specs.Codecs.{Codec, inForm}
+use Rattle.rules.proofs.TableLaws.{and-fst}
+use Rattle.rules.proofs.Facts.{few-ranges}
+use Rattle.layout.specs.Codecs.{inForm}
 use Rattle.layout.specs.Values.{snapshotBytes}
 use Rattle.layout.specs.Records.{commitBytes, checkpointBytes, entryBytes, presentBytes}
-use Rattle.layout.specs.Tables.{commitsIn, commitsOk, checkpointsIn, indexIn, presenceIn, laidOver}
+use Rattle.layout.specs.Tables.{commitsIn, commitsOk, presenceIn, laidOver}
 use Rattle.layout.specs.Lent.{after}
 use Rattle.layout.proofs.HoldLaws.{held-form}
-use Rattle.rows.proofs.Rows.{Layout, Laid, long-is}
+use Rattle.rows.proofs.Rows.{Laid, long-is}
 use Rattle.rows.proofs.Stores.{store-holds}
 use Rattle.rows.proofs.Tables.{commits}
 use Rattle.volume.specs.Snapshots as Snap
@@ -33,33 +32,6 @@ use Rattle.volume.proofs.SnapshotLaws.{laid-says}
 use Rattle.arguments.proofs.SnapshotLaws.{laid-formed}
 use Rattle.writecalls.specs.Written.{IsCommit, commitIn, logsIn}
 use Rattle.savecalls.specs.Saving.{Saved, outAfter, Leaves, stored}
-
--- ---- a snapshot's ranges
-
-module _ (cs : Table Commit) (v : Volume) where
-  few-path : (o : Option ℕ) → length (remotePath v o) ≤ 1
-  few-path none = omega arith
-  few-path (some n) = omega arith
-
-  few-to : (o : Option Commit) → length (remoteTo v o .path) ≤ 8
-  few-to none = omega arith
-  few-to (some c) = omega arith
-
-  few-remote : (o : Option ℕ) → length (remoteSnapshot cs v o .path) ≤ 8
-  few-remote none = omega arith
-  few-remote (some n) = few-to (getCommit cs (v .remote) n)
-
-  few-by : (o : Option Commit) → length (snapshotBy cs v o .path) ≤ 8
-  few-by none = few-remote (remoteOf (v .sync))
-  few-by (some c) = go (below (watermarkOf (v .sync)) (c .lsn))
-    where
-      go : (b : Bool) → length (cond b (localSnapshot v c) (remoteSnapshot cs v (remoteOf (v .sync))) .path) ≤ 8
-      go true = omega (arith, few-path (remoteOf (v .sync)))
-      go false = few-remote (remoteOf (v .sync))
-
-  pub few : length (snapshotOf cs v .path) ≤ 8
-  unfolding snapshotOf
-  few = few-by (latest cs (v .local))
 
 -- ---- what is stored
 
@@ -129,7 +101,7 @@ module _ (cs ks es ps out : List ℕ) (v : Volume) (lsn count : ℕ) (sid : Id) 
       -- s is the snapshot that is read of it
       module _ (s : CodeSnapshot) (es′ : s ≡ Snap.laid (snapshotOf (commitsIn u) v)) where
         pub snapshot-formed : Snap.inForm s ≡ true
-        snapshot-formed = ap Snap.inForm es′ ∙ laid-formed (snapshotOf (commitsIn u) v) (few (commitsIn u) v)
+        snapshot-formed = ap Snap.inForm es′ ∙ laid-formed (snapshotOf (commitsIn u) v) (few-ranges (commitsIn u) v)
 
         says : Snap.snapshotSays s ≡ snapshotOf (logs .commits) v
         says = ap Snap.snapshotSays es′ ∙ laid-says (snapshotOf (commitsIn u) v) ∙ ap (λ (t : Table Commit). snapshotOf t v) table-new

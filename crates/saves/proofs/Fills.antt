@@ -1,7 +1,7 @@
 -- The loop that stores the rows of a set's pages, last page first: what is still to be stored, put behind what is stored, is all of it. And the three stores of
 -- `put_pages`: the records behind the place moved up, the new rows in the gap, the count.
 use Prim.Native.Nat.{ℕ, _+_, _-_, _*_, _≤_}
-use mathlib.Core.Path.{_≡_, refl, sym, ap, ap₂, _∙_}
+use mathlib.Core.Path.{_≡_, refl, sym, ap, _∙_}
 use mathlib.Core.List.{List, [], _∷_, _++_, map, reverse, reverse-append}
 use native.Mathlib.Omega.{arith}
 use lib.ListN.{length, take, drop, length-map, length-reverse, length-append}
@@ -12,7 +12,7 @@ use Rattle.octets.proofs.Places as P
 use Rattle.rules.specs.Records.{Id, Pages}
 use Rattle.rules.specs.Pages.{pagesIn, size}
 use Rattle.table.specs.Table.{join, Each, countOf, recs, laid}
-use Rattle.table.proofs.Rows.{length-join, join-cons, join-none, laid-parts, rows-sub}
+use Rattle.table.proofs.Rows.{length-join, join-cons, join-none, laid-parts}
 use Rattle.layout.specs.Records.{sidPageBytes, presentBytes}
 use Rattle.presence.specs.Pages.{pageOf}
 use Rattle.presence.proofs.PresentLaws.{record-is}
@@ -40,13 +40,13 @@ module _ (sid : Id) (h : length sid ≡ 16) where
       length-join 21 (pageRows sid (reverse ps)) (rows-each (reverse ps))
       ∙ ap (λ (n : ℕ). n * 21) (rows-number ps)
 
-  pub filled-long : (s : Pages) → length (filled sid s) ≡ size s * 21
+  filled-long : (s : Pages) → length (filled sid s) ≡ size s * 21
   filled-long s = rows-long (pagesIn s)
 
   -- ---- a turn: p is the last of the pages ps, and qs are those before it
 
   module _ (ps qs : List ℕ) (p : ℕ) (split : ps ≡ qs ++ p ∷ []) where
-    pub left-long : length ps ≡ length qs + 1
+    left-long : length ps ≡ length qs + 1
     left-long = ap length split ∙ length-append qs (p ∷ []) ∙ omega arith
 
     join-last : join (pageRows sid (reverse ps)) ≡ presentBytes .spell (pageOf sid p) ++ join (pageRows sid (reverse qs))

@@ -22,7 +22,8 @@ use Rattle.rules.proofs.PageCounts.{size-counts}
 use Rattle.commit.specs.Builders.{zeroLsns, newSegment, newCommit, withSegment, withCheckpoints}
 use Rattle.commit.specs.declared.Presence.the-variants.{Missing, Given}
 use Rattle.commit.specs.declared.Commit.{Commit}
-use Rattle.setbytes.proofs.LaidLaws.{laid-says, shown-form}
+use Rattle.pageset.proofs.FormLaws.{shown-form}
+use Rattle.setbytes.proofs.LaidLaws.{laid-says}
 use Rattle.commit.specs.Says.{commitSays}
 use Rattle.layout.specs.Records.{commitBytes}
 use Rattle.rows.proofs.Rows.{long-is}

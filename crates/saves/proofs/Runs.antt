@@ -1,10 +1,10 @@
 -- Where the pages of a save go. No present page is of the segment, so every record stands below all of its pages or above all of them: in the order of keys the new
 -- records are one run, at the place of the segment's last page, and since pages go down in that order the last page comes first. So the records after are those
 -- before the place, the pages from the last down, and those behind; their number is those held plus the number of pages.
-use Prim.Native.Nat.{ℕ, zero, suc, _+_, _-_, _*_, _^_, _≤_, _<_, Ordering, Ordering·lt, Ordering·eq, Ordering·gt}
+use Prim.Native.Nat.{ℕ, _+_, _*_, _^_, _≤_, _<_, Ordering, Ordering·lt, Ordering·eq, Ordering·gt}
 use mathlib.Core.Path.{_≡_, refl, sym, ap, ap₂, _∙_}
 use mathlib.Core.List.{List, [], _∷_, _++_, map, reverse, reverse-cons, append-assoc}
-use mathlib.Core.Bool.{Bool, true, false, _||_}
+use mathlib.Core.Bool.{Bool, true, false}
 use native.Mathlib.Omega.{arith}
 use lib.Dec.{isEq}
 use lib.ListN.{length, take, drop, length-append, length-map, length-reverse, take-append-drop}
@@ -12,12 +12,12 @@ use Rattle.octets.specs.Order.{ordering}
 use Rattle.octets.specs.declared.Order.{Order}
 use Rattle.octets.specs.declared.Order.the-variants.{Less, Equal, Greater}
 use Rattle.core.specs.Orders.{next, bytes, isLt, down, sidPage}
-use Rattle.core.proofs.OrderLaws.{up-lt, lt≢eq, gt≢eq, gt≢lt, bytes-lawful, sidPage-lawful}
+use Rattle.core.proofs.OrderLaws.{up-lt, bytes-lawful, sidPage-lawful}
 use Rattle.rules.specs.Lists.{all, any}
 use Rattle.rules.specs.Records.{Id, Pages, Present, presentKey}
 use Rattle.rules.specs.Forms.{presentForm}
 use Rattle.rules.specs.Pages.{pagesIn, size}
-use Rattle.rules.specs.Tables.{sameId, put, putAll, fits}
+use Rattle.rules.specs.Tables.{put, putAll, fits}
 use Rattle.rules.specs.Save.{nowPresent}
 use Rattle.rules.proofs.TableLaws.{and-fst, and-snd, and-both, or-none, clash, all-weaken, map-append, lt-of}
 use Rattle.rules.proofs.Loops.{put-behind, put-before}
@@ -32,24 +32,11 @@ use Rattle.layout.specs.Records.{sidPageBytes, presentBytes}
 use Rattle.layout.specs.Tables.{presenceIn, presenceOk, laidOver}
 use Rattle.pagesdown.proofs.Climbs.{Climbs, pages-climb}
 use Rattle.rows.proofs.Rows.{formed-two, formed-forms, rows-are, length-rows, fits-is}
-use Rattle.rows.proofs.Finds.{Names}
+use Rattle.rows.proofs.Finds.{Names, map-take, map-drop}
 use Rattle.rows.proofs.Tables.{presence}
 use Rattle.presence.specs.Pages.{pageOf, ofSegment}
 use Rattle.presence.proofs.PresentLaws.{names}
 use Rattle.saves.specs.Added.{pageRows}
-
--- ---- `map` of a part of a list
-
-module _ {A B : Type 0} (f : A → B) where
-  map-take : (n : ℕ) (l : List A) → map f (take n l) ≡ take n (map f l)
-  map-take zero l = refl
-  map-take (suc n) [] = refl
-  map-take (suc n) (x ∷ l) = ap (λ (m : List B). f x ∷ m) (map-take n l)
-
-  map-drop : (n : ℕ) (l : List A) → map f (drop n l) ≡ drop n (map f l)
-  map-drop zero l = refl
-  map-drop (suc n) [] = refl
-  map-drop (suc n) (x ∷ l) = map-drop n l
 
 module _ (sid : Id) where
   -- ---- the pages put between records that stand below them all and one that stands above
@@ -62,10 +49,6 @@ module _ (sid : Id) where
   abbrev Above : ℕ → List Present → Type 0
   Above lo [] = Unit {0}
   Above lo (x ∷ xs) = (q : ℕ) → lo ≤ q → sidPage (sid, q) (presentKey x) ≡ Ordering·lt
-
-  above-from : (lo hi : ℕ) (b : List Present) → lo ≤ hi → Above lo b → Above hi b
-  above-from lo hi [] l h = tt
-  above-from lo hi (x ∷ b) l h = λ q m. h q (omega arith)
 
   lower : (p : ℕ) (x : Present) → under x ≡ true → isLt (sidPage (presentKey x) (sid, p)) ≡ true
   lower p x h = ap (λ (o : Ordering). isLt (next o (down (x .page) p))) (lt-of (bytes (x .sid) sid) h)
@@ -167,7 +150,7 @@ module _ (sid : Id) where
           ∙ ap (λ (b : List (List ℕ)). pageRows sid (reverse (pagesIn s)) ++ b) (map-drop f i l ∙ ap (drop i) (sym (rows-are presence t e))))
 
       -- the bytes after
-      pub run-laid : laid (take i (recs 21 t) ++ (pageRows sid (reverse (pagesIn s)) ++ drop i (recs 21 t))) t ≡ laidOver presentBytes (nowPresent sid s (presenceIn t)) t
+      run-laid : laid (take i (recs 21 t) ++ (pageRows sid (reverse (pagesIn s)) ++ drop i (recs 21 t))) t ≡ laidOver presentBytes (nowPresent sid s (presenceIn t)) t
       unfolding laidOver
       run-laid = ap (λ (rs : List (List ℕ)). laid rs t) (sym spelled-after)
 
@@ -179,7 +162,7 @@ module _ (sid : Id) where
           ∙ omega (arith, length-append (map (pageOf sid) (reverse (pagesIn s))) (drop i l), length-map (reverse (pagesIn s)) (pageOf sid), length-reverse (pagesIn s), ap length (take-append-drop i l), length-append (take i l) (drop i l), length-rows presence t)
 
       -- room for the pages is room for their number
-      pub run-fits : holds 21 (countOf t + size s) t ≡ fits (nowPresent sid s (presenceIn t))
+      run-fits : holds 21 (countOf t + size s) t ≡ fits (nowPresent sid s (presenceIn t))
       run-fits =
           ap (λ (m : ℕ). holds 21 m t) (sym (length-map (putAll presentKey sidPage (map (pageOf sid) (pagesIn s)) l) (presentBytes .spell) ∙ long-after))
           ∙ fits-is presence (putAll presentKey sidPage (map (pageOf sid) (pagesIn s)) l) t

@@ -1,5 +1,5 @@
 -- The ends of the calls: each test that the code has passed takes the rule's test away, in the rule's order, so that at each return the rule's answer is what the code answers.
-use Prim.Native.Nat.{ℕ, _≤_}
+use Prim.Native.Nat.{ℕ}
 use mathlib.Core.Path.{_≡_, sym, ap, _∙_}
 use mathlib.Core.List.{List, map}
 use mathlib.Core.Option.{Option}
@@ -32,7 +32,7 @@ use Rattle.searchcalls.specs.Searches.{searchIn}
 -- ---- search
 
 module _ (t u b : List ℕ) (p : ℕ) (out : List ℕ) where
-  abbrev pub answer : Answer (Option Commit)
+  abbrev answer : Answer (Option Commit)
   answer = lent (commitsOk t && indexOk u) (searchIn (commitsIn t) (indexIn u) b p out)
 
   -- 20
@@ -107,11 +107,6 @@ module _ (b : List ℕ) (s : CodeSnapshot) (e : s ≡ laid (snapshotIn b)) where
   -- its ranges are those that the bytes spell
   pub arg-path : map rangeSays (take (s .len) (s .path)) ≡ snapshotIn b .path
   arg-path = ap (λ (x : Snapshot). x .path) (arg-says b s e)
-
-  -- at most 8
-  pub arg-few : s .len ≤ 8
-  unfolding laid
-  arg-few = let l : s .len ≡ length (snapshotIn b .path) = ap (λ (x : CodeSnapshot). x .len) e in omega (arith, l, in-few b)
 
 -- ---- checkpoint lookup
 

@@ -49,7 +49,7 @@ module _ (t : List ℕ) (log : Id) (lsn : ℕ) (p : Place) (h : PlaceOf t (getCo
 
 module _ (cs : Table Commit) (es : Table Entry) (r : Range) (p : ℕ) (later : Answer (Option Commit)) where
   -- it has an entry, whose commit decides
-  pub has-entry : (lsn : ℕ) → some lsn ≡ entryLsn (first (entryIn r p) (es .rows)) → entryCommit cs (r .log) lsn ≡ foundBy cs (first (entryIn r p) (es .rows)) later
+  has-entry : (lsn : ℕ) → some lsn ≡ entryLsn (first (entryIn r p) (es .rows)) → entryCommit cs (r .log) lsn ≡ foundBy cs (first (entryIn r p) (es .rows)) later
   has-entry lsn h =
       options (first (entryIn r p) (es .rows))
       (λ n. absurd (missing refl (sym (h ∙ ap entryLsn n))))
@@ -59,7 +59,7 @@ module _ (cs : Table Commit) (es : Table Entry) (r : Range) (p : ℕ) (later : A
       ap₂ (entryCommit cs) s l ∙ ap (λ (o : Option Entry). foundBy cs o later) (sym n))
 
   -- it has none
-  pub no-entry : none ≡ entryLsn (first (entryIn r p) (es .rows)) → foundBy cs (first (entryIn r p) (es .rows)) later ≡ later
+  no-entry : none ≡ entryLsn (first (entryIn r p) (es .rows)) → foundBy cs (first (entryIn r p) (es .rows)) later ≡ later
   no-entry h =
       options (first (entryIn r p) (es .rows))
       (λ n. ap (λ (o : Option Entry). foundBy cs o later) n)

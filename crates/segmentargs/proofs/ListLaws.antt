@@ -35,6 +35,7 @@ use Rattle.commit.specs.Says.{segmentSays, rangeSays}
 use Rattle.frames.specs.declared.Run.{Run}
 use Rattle.frames.specs.Rules.{noFrames, spelled, framesOk, listRule}
 use Rattle.frames.proofs.PlaceLaws.{form-rises, formed-ok, span-is, start-least}
+use Rattle.frames.proofs.ListLaws.{parts-length}
 use Rattle.layout.specs.Values.{setBytes, frameBytes, framesBytes, partBytes}
 use Rattle.setbytes.specs.Laid.{setLaid}
 use Rattle.setbytes.proofs.LaidLaws.{says-laid, laid-normal}
@@ -56,10 +57,10 @@ use Rattle.segmentargs.proofs.SegmentLaws.{range-size, range-long}
 -- ---- number k of a list
 
 module _ {A : Type 0} (l : List A) (k : ℕ) (x : A) (e : Nth l k x) where
-  pub nth-below : k < length l
+  nth-below : k < length l
   nth-below = omega (arith, ap length e, length-drop k l)
 
-  pub nth-take : take (k + 1) l ≡ take k l ++ (x ∷ [])
+  nth-take : take (k + 1) l ≡ take k l ++ (x ∷ [])
   nth-take = take-add k 1 l ∙ ap (λ (m : List A). take k l ++ take 1 m) e
 
 -- ---- the frames where they stand
@@ -126,11 +127,11 @@ pub record Reached (s : R.Segment) (i byte page : ℕ) : Type 0 where
   pub fits : byte + total (drop i (s .frames)) ≤ 18446744073709551615
 
 module _ (s : R.Segment) (e : segmentForm s ≡ true) where
-  pub its-form : normalForm (s .pages) ≡ true
+  its-form : normalForm (s .pages) ≡ true
   unfolding segmentForm listsForm
   its-form = search (and-fst, and-snd)
 
-  pub its-sid : length (s .sid) ≡ 16
+  its-sid : length (s .sid) ≡ 16
   unfolding segmentForm bytesForm
   its-sid = eqb-true (length (s .sid)) 16 (search (and-fst, and-snd))
 
@@ -197,13 +198,9 @@ module _ (s : R.Segment) (i byte page : ℕ) (r : Reached s i byte page) (f : R.
   }
 
 -- as many parts as frames
-from-long : (s : R.Segment) (byte page : ℕ) (fs : List R.Frame) → length (partsFrom s byte page fs) ≡ length fs
-from-long s byte page [] = refl
-from-long s byte page (f ∷ fs) = ap suc (from-long s (byte + f .size) (f .last + 1) fs)
-
 pub parts-long : (s : R.Segment) → length (partsOf s) ≡ length (s .frames)
 unfolding partsOf
-parts-long s = from-long s 0 (startPage (s .pages)) (s .frames)
+parts-long s = parts-length s 0 (startPage (s .pages)) (s .frames)
 
 -- ---- a frame by value
 

@@ -1,5 +1,5 @@
 -- Segments and ranges across the boundary: an answer by value and what is left of it. A range whose set is in normal form fills a lent slice of its size. Assumes nothing.
-use Prim.Native.Nat.{ℕ, _+_}
+use Prim.Native.Nat.{ℕ}
 use mathlib.Core.Path.{_≡_, refl, sym, ap, ap₂, _∙_, subst}
 use mathlib.Core.List.{List, _++_}
 use mathlib.Core.Option.{Option, none, some}
@@ -13,11 +13,10 @@ use Rattle.octets.proofs.Numbers.{length-bytesOf}
 use Rattle.core.specs.Answers.{Answer, refused, done, ask, _>>=_, _>>_}
 use Rattle.core.specs.Numbers.{counts}
 use Rattle.pageset.specs.Sets.{normal, normalForm, shown}
-use Rattle.pageset.proofs.FormLaws.{and-fst, and-snd, and-both}
+use Rattle.pageset.proofs.FormLaws.{and-fst, and-snd, and-both, shown-form, empty-normal}
 use Rattle.rules.specs.Forms.{listsForm}
 use Rattle.rules.specs.Frames.{Part, frameOf, partOf, touching, joinedPart, join}
 use Rattle.commit.specs.declared.Presence.{Presence}
-use Rattle.commit.specs.declared.Presence.the-variants.{Missing, Given}
 use Rattle.commit.specs.declared.SegmentIdx.{SegmentIdx}
 use Rattle.commit.specs.declared.SegmentRange.{SegmentRange}
 use Rattle.commit.specs.declared.RangeAnswer.{RangeAnswer}
@@ -26,12 +25,11 @@ use Rattle.frames.specs.Rules.{frameRule, spelled}
 use Rattle.ranges.specs.Rules.{joinRule}
 use Rattle.layout.specs.Codecs.{inForm}
 use Rattle.layout.specs.Values.{setBytes, windowBytes, framesBytes, frameBytes, segmentBytes, partBytes}
-use Rattle.setbytes.proofs.LaidLaws.{shown-form}
 use Rattle.segmentbytes.specs.Laid.{partForm}
 use Rattle.arguments.specs.declared.Reply.{Reply}
-use Rattle.arguments.specs.Replies.{none-under, given}
+use Rattle.arguments.specs.Replies.{none-under}
 use Rattle.segmentargs.specs.Segments.{notARange, rangeIn, rangeArg, rangeBytes, rangeLeft, touchRule, joinLeft, rangePut}
-use Rattle.arguments.proofs.SetLaws.{Early, is-early, set-long, empty-normal}
+use Rattle.arguments.proofs.SetLaws.{Early, is-early, set-long}
 use Rattle.layout.specs.Lent.{sized}
 use Rattle.arguments.specs.Sets.{early}
 use Rattle.arguments.proofs.ArgLaws.{whole}
@@ -108,7 +106,7 @@ module _ (was : List ℕ) (a : RangeAnswer) where
 -- ---- what is left of an answer to a rule
 
 -- what comes after the lent slice refuses by 22
-abbrev pub Late : {A : Type 0} → Answer A → Type 0
+abbrev Late : {A : Type 0} → Answer A → Type 0
 Late (refused n) = n ≡ 22
 Late (done x) = Unit {0}
 
@@ -134,7 +132,7 @@ module _ (was : List ℕ) (a : RangeAnswer) where
   between false x late = refl
 
   -- a rule whose last numbers come after the lent slice
-  pub left-range-late : (q : Answer (Option Part)) (late : Option Part → Answer (Option Part)) → Early q → ((x : Option Part) → Late (late x)) → Tells a (q >>= late)
+  left-range-late : (q : Answer (Option Part)) (late : Option Part → Answer (Option Part)) → Early q → ((x : Option Part) → Late (late x)) → Tells a (q >>= late)
       → rangePut was a ≡ rangeBytes was (sized (partBytes .size) was q >>= late)
   left-range-late (refused n) late l h e =
       let c : a .code ≡ n = ap (λ (x : RangeAnswer). x .code) e in
@@ -170,7 +168,7 @@ join-chain true false v x h = refl
 join-chain true true v x h = ap (λ (w : Bool). ask w 3 >> joinedPart x) (h refl)
 
 -- the rule by value asks 2 and 3 twice
-pub join-touch : (a b : SegmentRange) → joinRule a b ≡ (touchRule a b >>= joinedPart)
+join-touch : (a b : SegmentRange) → joinRule a b ≡ (touchRule a b >>= joinedPart)
 unfolding joinRule join touchRule
 join-touch a b =
     join-chain (leb (a .start) (a .end) && leb (b .start) (b .end)) (normal (a .pages) && normal (b .pages)) (normalForm (shown (a .pages)) && normalForm (shown (b .pages))) (touching (rangeSays a) (rangeSays b))

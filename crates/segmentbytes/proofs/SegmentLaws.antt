@@ -1,6 +1,6 @@
 -- Segments and ranges in bytes: their fields, one after another. The form of a segment is that of its set, and then that of its frames from the set's starting page
 -- on; the form of a range is that of its set. Assumes nothing.
-use Prim.Native.Nat.{ℕ, _+_, _-_, _*_, _≤_, _<_}
+use Prim.Native.Nat.{ℕ, _+_, _≤_}
 use mathlib.Core.Path.{_≡_, refl, sym, ap, ap₂, _∙_}
 use mathlib.Core.Bool.{Bool, true, false, _&&_}
 use mathlib.Core.List.{List, _++_, append-assoc}
@@ -15,7 +15,7 @@ use Rattle.rules.specs.Records.{Pages, Segment, Frame}
 use Rattle.rules.specs.Frames.{Part}
 use Rattle.rules.specs.Forms.{idForm, startPage, framesForm, listsForm, segmentForm}
 use Rattle.rules.proofs.TableLaws.{and-both}
-use Rattle.layout.specs.Codecs.{Codec, number, raw, pair, spelled, inForm}
+use Rattle.layout.specs.Codecs.{Codec, number, pair, spelled, inForm}
 use Rattle.layout.specs.Values.{idBytes, windowBytes, setBytes, frameBytes, framesBytes, segmentBytes, segmentOf, segmentParts, partBytes, partOf, partParts}
 use Rattle.layout.proofs.SpellLaws.{Steady, number-steady, raw-steady, pair-spelled, number-spelled, raw-spelled}
 use Rattle.layout.proofs.PlaceLaws.{front, behind, viewed-form, raw-at, pair-at, pair-read}
@@ -26,7 +26,7 @@ use Rattle.segmentbytes.specs.Domain.{framesFrom}
 -- ---- one value, and then another whose form depends on the first
 
 module _ {A B : Type 0} (c : Codec A) (d : Codec B) (f : A → Bool) (g : A → B → Bool) (st : Steady c) where
-  pub pair-with : (s : List ℕ) (at : ℕ) → at + (c .size + d .size) ≤ length s
+  pair-with : (s : List ℕ) (at : ℕ) → at + (c .size + d .size) ≤ length s
       → inForm (pair c d) (λ x. f (x .0) && g (x .0) (x .1)) (part at (c .size + d .size) s)
       ≡ inForm c f (part at (c .size) s) && inForm d (g (c .read (part at (c .size) s))) (part (at + c .size) (d .size) s)
   unfolding inForm

@@ -1,13 +1,13 @@
 -- What a segment or a range that is laid out says is what it was laid out for, and both round trips: what was written is read again, and what was read is written
 -- as it stood.
 use Prim.Native.Nat.{ℕ, _+_, _<_, _≤_, _^_}
-use mathlib.Core.Path.{_≡_, refl, ap, ap₂, _∙_}
+use mathlib.Core.Path.{_≡_, refl, ap, ap₂}
 use mathlib.Core.Bool.{true}
 use mathlib.Core.List.{List}
 use lib.ListN.{length}
 use Rattle.octets.specs.Bytes.{part, put}
 use Rattle.pageset.specs.declared.PageSet.{PageSet}
-use Rattle.pageset.specs.Sets.{shown, normal}
+use Rattle.pageset.specs.Sets.{normal}
 use Rattle.rules.specs.Records as R
 use Rattle.rules.specs.Frames.{Part}
 use Rattle.rules.specs.Forms.{idForm, segmentForm}
@@ -15,10 +15,11 @@ use Rattle.commit.specs.declared.SegmentIdx.{SegmentIdx}
 use Rattle.commit.specs.declared.SegmentRange.{SegmentRange}
 use Rattle.commit.specs.Builders.{newSegment}
 use Rattle.commit.specs.Says.{segmentSays, rangeSays}
-use Rattle.layout.specs.Codecs.{Codec, inForm}
+use Rattle.layout.specs.Codecs.{inForm}
 use Rattle.layout.specs.Values.{windowBytes, setBytes, frameBytes, framesBytes, segmentBytes, partBytes}
 use Rattle.layout.proofs.FormHolds.{segment-held, part-held}
-use Rattle.setbytes.proofs.LaidLaws.{says-laid, laid-says, shown-form}
+use Rattle.pageset.proofs.FormLaws.{shown-form}
+use Rattle.setbytes.proofs.LaidLaws.{says-laid, laid-says}
 use Rattle.setbytes.proofs.TripLaws.{read-again, written-again}
 use Rattle.segmentbytes.specs.Laid.{segmentLaid, rangeLaid, partForm, IsLaid}
 use Rattle.segmentbytes.proofs.FrameLaws.{says-frames}
@@ -29,11 +30,11 @@ pub segment-says : (v : R.Segment) → segmentSays (segmentLaid v) ≡ v
 segment-says v =
     ap₂ {C = R.Segment} (λ (ws : R.Pages) (fs : List R.Frame). record { sid = v .sid; pages = ws; frames = fs }) (says-laid (v .pages)) (says-frames (v .frames) (length (v .frames)) refl)
 
-pub range-says : (p : Part) → rangeSays (rangeLaid p) ≡ p
+range-says : (p : Part) → rangeSays (rangeLaid p) ≡ p
 range-says p = ap (λ (ws : R.Pages). record { sid = p .sid; start = p .start; end = p .end; pages = ws }) (says-laid (p .pages))
 
 -- a segment is laid out where its set is in normal form and its frames are laid out; so is one without frames
-pub segment-laid : (x : SegmentIdx) → normal (x .pages) ≡ true → IsLaid (x .len) (x .frames) → segmentLaid (segmentSays x) ≡ x
+segment-laid : (x : SegmentIdx) → normal (x .pages) ≡ true → IsLaid (x .len) (x .frames) → segmentLaid (segmentSays x) ≡ x
 segment-laid x e f =
     let p = laid-says (x .pages) e in
     let n = f .count in

@@ -18,9 +18,6 @@ module _ (x : SegmentIdx) (vs : List Val) (g : Is (row S.the-type) x vs) where
   pub windows-32 : length (x .pages .windows) ≡ 32
   windows-32 = long-of (x .pages) _ (g .1 .1 .1 .0)
 
-  pub frames-16 : length (x .frames) ≡ 16
-  frames-16 = sym (length-map (x .frames) _) ∙ g .1 .1 .1 .1 .1 .0 .1 .0 .1
-
 module _ (x : SegmentRange) (vs : List Val) (g : Is (row R.the-type) x vs) where
   pub range-sid-16 : length (x .sid) ≡ 16
   range-sid-16 = sym (length-map (x .sid) _) ∙ g .1 .1 .0 .1 .0 .1

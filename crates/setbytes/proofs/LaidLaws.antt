@@ -1,16 +1,16 @@
 -- A set by value and its windows determine each other: the set that windows make shows them, and is in normal form exactly as they are. Assumes nothing.
-use Prim.Native.Nat.{ℕ, _+_, _-_, _≤_, _<_}
-use mathlib.Core.Path.{_≡_, refl, sym, ap, _∙_}
-use mathlib.Core.Bool.{Bool, true, false, not, _&&_}
-use mathlib.Core.List.{_++_}
+use Prim.Native.Nat.{ℕ, _+_, _-_, _≤_}
+use mathlib.Core.Path.{_≡_, refl, ap, _∙_}
+use mathlib.Core.Bool.{true, not, _&&_}
 use native.Mathlib.Omega.{arith}
 use borrow.Author.Tests.{leb-true, le-leb, eq-eqb}
-use lib.Dec.{eqb, leb}
+use lib.Dec.{leb}
 use lib.ListN.{length, drop, replicate, length-append, length-replicate, length-take}
 use lib.Seq.{take-at, drop-at}
 use Rattle.pageset.specs.declared.PageSet.{PageSet}
 use Rattle.pageset.specs.Sets.{holds, rising, windowForms, normalForm, shown, zeroWindow, blank, normal}
-use Rattle.pageset.proofs.FormLaws.{and-fst, and-snd, and-both, Tidy, Normal, normal-fact, blank-test, shown-length}
+use Rattle.pageset.proofs.FormLaws.{and-fst, and-both, Tidy, normal-fact, blank-test, shown-length}
+pub use Rattle.pageset.proofs.FormLaws.{shown-form}
 use Rattle.pageset.proofs.WalkLaws.{tidy-known}
 use Rattle.rules.specs.Records.{Pages}
 use Rattle.setbytes.specs.Laid.{setLaid}
@@ -27,7 +27,7 @@ module _ (ws : Pages) (h : length ws ≤ 32) where
   rest : drop (length ws) (setLaid ws .windows) ≡ replicate (32 - length ws) zeroWindow
   rest = drop-at ws (replicate (32 - length ws) zeroWindow) (length ws) refl
 
-  pub laid-tidy : Tidy (setLaid ws)
+  laid-tidy : Tidy (setLaid ws)
   laid-tidy = record { short = h; whole = long; rest = rest }
 
 -- windows in normal form are at most 32
@@ -51,11 +51,6 @@ laid-normal ws e =
 module _ (s : PageSet) (e : normal s ≡ true) where
   tidy : Tidy s
   tidy = normal-fact s e .tidy
-
-  -- the windows that it shows are in normal form
-  pub shown-form : normalForm (shown s) ≡ true
-  unfolding normal
-  shown-form = and-snd (leb (s .len) 32 && eqb (length (s .windows)) 32 && blank (drop (s .len) (s .windows))) (normalForm (shown s)) e
 
   -- a set in normal form is that of the windows that it shows
   pub laid-says : setLaid (shown s) ≡ s

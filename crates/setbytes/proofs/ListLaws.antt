@@ -2,7 +2,7 @@
 -- array written as it. Everything goes by the runs of bytes behind the count. Assumes nothing.
 use Prim.Native.Nat.{ℕ, zero, suc, _+_, _-_, _*_, _≤_, _<_, min}
 use mathlib.Core.Path.{_≡_, refl, sym, ap, ap₂, _∙_}
-use mathlib.Core.List.{List, [], _∷_, _++_, map, append-assoc}
+use mathlib.Core.List.{List, [], _∷_, _++_, map}
 use mathlib.Core.Bool.{Bool, true, false, _&&_, and-true}
 use native.Mathlib.Omega.{arith}
 use native.Mathlib.Nat.{add-zero, mul-comm}
@@ -16,8 +16,9 @@ use Rattle.octets.specs.Tab.{tab}
 use Rattle.octets.proofs.Numbers as N
 use Rattle.octets.proofs.Flats as F
 use Rattle.octets.proofs.Places as P
+use Rattle.octets.proofs.Tabs.{drop-replicate}
 use Rattle.table.specs.Table.{runs}
-use Rattle.table.proofs.Rows.{rows-le, rows-sub, length-runs, runs-last, runs-same}
+use Rattle.table.proofs.Rows.{rows-le, rows-sub, length-runs, runs-same, tab-runs}
 use Rattle.pageset.proofs.FormLaws.{and-left, and-right}
 use Rattle.rules.specs.Lists.{all}
 use Rattle.rules.proofs.TableLaws.{and-both}
@@ -39,31 +40,11 @@ module _ {A : Type 0} (r : List ℕ → A) (k : ℕ) where
       let e : at + k + i * k ≡ at + suc i * k = omega arith in
       read-nth n (at + k) s z i (omega arith) ∙ ap (λ (m : ℕ). r (part m k s)) e
 
-  -- an array filled with them, one by one
-  pub tab-read : (n at : ℕ) (s : List ℕ) → tab (λ i. r (part (at + i * k) k s)) n ≡ map r (runs n k at s)
-  unfolding tab runs
-  tab-read zero at s = refl
-  tab-read (suc n) at s =
-      ap (λ (l : List A). l ++ (r (part (at + n * k) k s) ∷ [])) (tab-read n at s)
-      ∙ sym (map-snoc (runs n k at s) (part (at + n * k) k s))
-      ∙ ap (map r) (sym (runs-last k n at s))
-      ∙ ap (λ (m : ℕ). map r (runs m k at s)) (let e : n + 1 ≡ suc n = omega arith in e)
-    where
-      map-snoc : (l : List (List ℕ)) (x : List ℕ) → map r (l ++ (x ∷ [])) ≡ map r l ++ (r x ∷ [])
-      map-snoc [] x = refl
-      map-snoc (y ∷ l) x = ap (λ (m : List A). r y ∷ m) (map-snoc l x)
-
--- the zeros behind what an array was filled with
-pub drop-zeros : {A : Type 0} (z : A) (n i : ℕ) → drop i (replicate n z) ≡ replicate (n - i) z
-drop-zeros z n zero = let e : n - 0 ≡ n = omega arith in ap (λ (m : ℕ). replicate m z) (sym e)
-drop-zeros z zero (suc i) = let e : 0 - suc i ≡ 0 = omega arith in ap (λ (m : ℕ). replicate m z) (sym e)
-drop-zeros z (suc n) (suc i) = drop-zeros z n i ∙ (let e : n - i ≡ suc n - suc i = omega arith in ap (λ (m : ℕ). replicate m z) e)
-
 -- an array that was zero, filled with n of them
 pub filled : {A : Type 0} (r : List ℕ → A) (k n at : ℕ) (s : List ℕ) (z : A) (limit : ℕ) (xs : List A) (i : ℕ)
     → xs ≡ tab (λ j. r (part (at + j * k) k s)) i ++ drop i (replicate limit z) → i ≡ n → xs ≡ map r (runs n k at s) ++ replicate (limit - n) z
 filled r k n at s z limit xs i e h =
-    e ∙ ap₂ _++_ (tab-read r k i at s) (drop-zeros z limit i) ∙ ap (λ (m : ℕ). map r (runs m k at s) ++ replicate (limit - m) z) h
+    e ∙ ap₂ _++_ (tab-runs r k i at s) (drop-replicate z limit i) ∙ ap (λ (m : ℕ). map r (runs m k at s) ++ replicate (limit - m) z) h
 
 -- ---- a list at a place
 
@@ -143,11 +124,6 @@ module _ {A : Type 0} (c : Codec A) (n : ℕ) (st : Steady c) (ok : Free c) (l :
 -- ---- an array written
 
 module _ {A : Type 0} (e : A → List ℕ) where
-  flat-append : (xs ys : List A) → flat e (xs ++ ys) ≡ flat e xs ++ flat e ys
-  unfolding flat
-  flat-append [] ys = refl
-  flat-append (x ∷ xs) ys = ap (λ (l : List ℕ). e x ++ l) (flat-append xs ys) ∙ sym (append-assoc (e x) (flat e xs) (flat e ys))
-
   flat-zeros : (z : A) (k : ℕ) → e z ≡ replicate k 0 → (n : ℕ) → flat e (replicate n z) ≡ replicate (n * k) 0
   unfolding flat
   flat-zeros z k h zero = let m : 0 ≡ 0 * k = omega arith in ap (λ (j : ℕ). replicate j 0) m
@@ -158,7 +134,7 @@ module _ {A : Type 0} (e : A → List ℕ) where
 pub spell-array : {A B : Type 0} (c : Codec A) (n : ℕ) (e : B → List ℕ) (z : B) → e z ≡ replicate (c .size) 0 → (xs : List A) (ys : List B) → flat e ys ≡ flat (c .spell) xs
     → listed c n .spell xs ≡ bytesOf 1 (length xs) ++ flat e (ys ++ replicate (n - length xs) z)
 spell-array c n e z h xs ys g =
-    ap (λ (l : List ℕ). bytesOf 1 (length xs) ++ l) (sym (flat-append e ys (replicate (n - length xs) z) ∙ ap₂ _++_ g (flat-zeros e z (c .size) h (n - length xs))))
+    ap (λ (l : List ℕ). bytesOf 1 (length xs) ++ l) (sym (F.flat-append e ys (replicate (n - length xs) z) ∙ ap₂ _++_ g (flat-zeros e z (c .size) h (n - length xs))))
 
 -- values by value, each laid out for an element that it says
 module _ {A B : Type 0} (laid : A → B) (says : B → A) (h : (x : A) → says (laid x) ≡ x) where

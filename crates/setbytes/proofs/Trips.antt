@@ -7,11 +7,12 @@ use lib.ListN.{length}
 use Rattle.octets.specs.Bytes.{part, put}
 use Rattle.pageset.specs.declared.PageSet.{PageSet}
 use Rattle.pageset.specs.Sets.{shown, normalForm, normal}
-use Rattle.layout.specs.Codecs.{Codec, inForm}
+use Rattle.layout.specs.Codecs.{inForm}
 use Rattle.layout.specs.Values.{windowBytes, setBytes}
 use Rattle.layout.proofs.FormHolds.{set-held}
 use Rattle.setbytes.specs.Laid.{setLaid}
-use Rattle.setbytes.proofs.LaidLaws.{says-laid, laid-says, shown-form}
+use Rattle.pageset.proofs.FormLaws.{shown-form}
+use Rattle.setbytes.proofs.LaidLaws.{says-laid, laid-says}
 use Rattle.setbytes.proofs.TripLaws.{read-again, written-again}
 
 module _ (s : List ℕ) (at : ℕ) (h : at + 385 ≤ length s) where

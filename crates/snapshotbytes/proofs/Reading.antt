@@ -1,25 +1,24 @@
 -- The snapshot at a place: what is asked of its bytes, by its fields (`asked`), and the value that is read of them (`read-laid`).
 use Prim.Native.Nat.{ℕ, zero, suc, _+_, _-_, _*_, _<_, _≤_, min}
 use mathlib.Core.Path.{_≡_, refl, sym, ap, ap₂, _∙_}
-use mathlib.Core.List.{List, [], _∷_, _++_, map, map-append}
+use mathlib.Core.List.{List, [], _++_, map, map-map}
 use mathlib.Core.Bool.{Bool, true, false, _&&_}
 use native.Mathlib.Omega.{arith}
-use native.Mathlib.Numerals.{add-one}
 use lib.Dec.{eqb, leb}
 use borrow.Author.Tests.{eq-eqb, ne-eqb, le-leb, lt-leb}
 use lib.ListN.{length, drop, replicate, length-map}
 use Rattle.octets.specs.Bytes.{be, part, AreBytes, allZero}
 use Rattle.octets.specs.Tab.{tab}
 use Rattle.octets.proofs.Places as P
+use Rattle.octets.proofs.Tabs.{drop-replicate}
 use Rattle.table.specs.Table.{runs}
-use Rattle.table.proofs.Rows.{rows-sub, rows-le, key-at, runs-same, runs-last, length-runs}
+use Rattle.table.proofs.Rows.{rows-sub, key-at, runs-same, length-runs, tab-runs}
 use Rattle.rules.specs.Lists.{all}
 use Rattle.rules.specs.Records as rules
 use Rattle.layout.specs.Codecs.{Codec, number, listed, pair, reserved, spelled}
 use Rattle.layout.specs.Values.{idBytes, rangeOf, rangeParts, rangeBytes, snapshotOf, snapshotParts, snapshotBytes}
 use Rattle.layout.proofs.SpellLaws as S
 use Rattle.layout.proofs.PlainLaws.{Plain, number-plain, raw-plain, pair-plain, viewed-plain}
-use Rattle.core.specs.declared.page_count.PageCount.{PageCount}
 use Rattle.volume.specs.declared.snapshot.LogRange.{LogRange}
 use Rattle.volume.specs.declared.snapshot.Snapshot.{Snapshot}
 use Rattle.volume.specs.Snapshots.{laidRange, noRange, laid}
@@ -74,7 +73,7 @@ module _ (s : List ℕ) (at : ℕ) (h : at + 262 ≤ length s) where
 
   module _ (m : ℕ) (em : m ≡ min (be (part (at + 5) 1 s)) 8) where
     -- the reserved byte is 0, the ranges are at most 8, and what is past them is zero
-    pub asked : AreBytes s → spelled snapshotBytes (part at 262 s) ≡ eqb (be (part at 1 s)) 0 && (leb (be (part (at + 5) 1 s)) 8 && allZero (part (at + 6 + m * 32) ((8 - m) * 32) s))
+    asked : AreBytes s → spelled snapshotBytes (part at 262 s) ≡ eqb (be (part at 1 s)) 0 && (leb (be (part (at + 5) 1 s)) 8 && allZero (part (at + 6 + m * 32) ((8 - m) * 32) s))
     unfolding snapshotBytes rangeBytes
     asked bs =
         let b = part at 262 s in
@@ -113,7 +112,7 @@ module _ (s : List ℕ) (at : ℕ) (h : at + 262 ≤ length s) where
             e ∙ sym (asked by ∙ simp (eq-eqb (be (part at 1 s)) 0 (sym ex ∙ z), le-leb (be (part (at + 5) 1 s)) 8 k))
 
     -- the count and the ranges that are read
-    pub read-is : snapshotBytes .read (part at 262 s) ≡ record { path = map (rangeBytes .read) (runs m 32 (at + 6) s); count = be (part (at + 1) 4 s) }
+    read-is : snapshotBytes .read (part at 262 s) ≡ record { path = map (rangeBytes .read) (runs m 32 (at + 6) s); count = be (part (at + 1) 4 s) }
     unfolding snapshotBytes rangeBytes
     read-is =
         let c = part 1 261 (part at 262 s) in
@@ -137,31 +136,13 @@ module _ (s : List ℕ) (at : ℕ) (h : at + 262 ≤ length s) where
 
 -- ---- the loop that reads a path
 
-module _ {A : Type 0} (f : List ℕ → A) (size at : ℕ) (s : List ℕ) where
-  pub tab-runs : (n : ℕ) → tab (λ i. f (part (at + i * size) size s)) n ≡ map f (runs n size at s)
-  unfolding tab runs
-  tab-runs zero = refl
-  tab-runs (suc n) =
-      ap (λ l. l ++ (f (part (at + n * size) size s) ∷ [])) (tab-runs n)
-      ∙ sym (map-append f (runs n size at s) (part (at + n * size) size s ∷ []))
-      ∙ ap (map f) (sym (runs-last size n at s) ∙ ap (λ k. runs k size at s) (add-one n))
-
-drop-replicate : {A : Type 0} (n m : ℕ) (x : A) → drop n (replicate m x) ≡ replicate (m - n) x
-drop-replicate zero m x = let e : m ≡ m - 0 = omega arith in ap (λ k. replicate k x) e
-drop-replicate (suc n) zero x = let e : 0 ≡ 0 - suc n = omega arith in ap (λ k. replicate k x) e
-drop-replicate (suc n) (suc m) x = let e : m - n ≡ suc m - suc n = omega arith in drop-replicate n m x ∙ ap (λ k. replicate k x) e
-
-map-map : {A B C : Type 0} (g : B → C) (f : A → B) (l : List A) → map g (map f l) ≡ map (λ x. g (f x)) l
-map-map g f [] = refl
-map-map g f (x ∷ l) = ap (λ r. g (f x) ∷ r) (map-map g f l)
-
 -- the range that stands at place i
 abbrev pub rangeAt : List ℕ → ℕ → ℕ → LogRange
 rangeAt s at i = laidRange (rangeBytes .read (part (at + i * 32) 32 s))
 
 pub path-read : (s : List ℕ) (at n : ℕ) → tab (rangeAt s at) n ++ drop n (replicate 8 noRange) ≡ map laidRange (map (rangeBytes .read) (runs n 32 at s)) ++ replicate (8 - n) noRange
 path-read s at n =
-    ap₂ _++_ (tab-runs (λ b. laidRange (rangeBytes .read b)) 32 at s n ∙ sym (map-map laidRange (rangeBytes .read) (runs n 32 at s))) (drop-replicate n 8 noRange)
+    ap₂ _++_ (tab-runs (λ b. laidRange (rangeBytes .read b)) 32 n at s ∙ sym (map-map laidRange (rangeBytes .read) (runs n 32 at s))) (drop-replicate noRange 8 n)
 
 -- the path of an empty snapshot: 8 places that are zero
 pub empty-path : (x : Snapshot) (count : ℕ) → x ≡ laid (record { path = []; count = count }) → x .path ≡ replicate 8 noRange

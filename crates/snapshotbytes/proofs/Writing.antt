@@ -1,33 +1,34 @@
 -- The bytes of a snapshot in form: its fields and all 8 places, since the places past its ranges are zero (`spell-is`); the loop that writes a path;
 -- and the two round trips.
-use Prim.Native.Nat.{ℕ, zero, suc, _+_, _-_, _*_, _^_, _<_, _≤_}
+use Prim.Native.Nat.{ℕ, zero, suc, _+_, _-_, _*_, _<_, _≤_}
 use mathlib.Core.Path.{_≡_, refl, sym, ap, ap₂, _∙_}
-use mathlib.Core.List.{List, [], _∷_, _++_, map, append-assoc, append-nil}
-use mathlib.Core.Bool.{Bool, true, _&&_}
+use mathlib.Core.List.{List, [], _∷_, _++_, map, append-assoc}
+use mathlib.Core.Bool.{true}
 use native.Mathlib.Omega.{arith}
 use native.Mathlib.Numerals.{add-one}
 use lib.Dec.{leb}
 use borrow.Author.Tests.{leb-true}
 use lib.ListN.{length, take, drop, getD, replicate, length-append, length-map, length-take, length-drop, take-append-drop, replicate-append-replicate}
 use lib.Seq.{take-suc, take-all}
-use Rattle.octets.specs.Bytes.{be, bytesOf, part, put, AreBytes}
+use Rattle.octets.specs.Bytes.{bytesOf, put}
 use Rattle.octets.specs.Flat.{flat}
 use Rattle.octets.proofs.Places as P
+use Rattle.octets.proofs.Flats.{flat-append, flat-one}
 use Rattle.octets.proofs.Numbers as N
 use Rattle.rules.specs.Lists.{all}
 use Rattle.rules.specs.Records as rules
 use Rattle.rules.proofs.TableLaws.{and-fst, and-snd}
-use Rattle.layout.specs.Codecs.{Codec, spelled, Holds}
+use Rattle.layout.specs.Codecs.{spelled, Holds}
 use Rattle.layout.specs.Values.{rangeBytes, snapshotBytes}
 use Rattle.layout.proofs.HoldLaws as H
 use Rattle.volume.specs.declared.snapshot.LogRange.{LogRange}
 use Rattle.volume.specs.declared.snapshot.Snapshot.{Snapshot}
-use Rattle.volume.specs.Snapshots.{rangeSays, snapshotSays, laidRange, noRange, isZeroRange, inForm, laid}
+use Rattle.volume.specs.Snapshots.{rangeSays, snapshotSays, noRange, isZeroRange, inForm, laid}
 use Rattle.volume.proofs.PathLaws.{back, zero-ranges}
 use Rattle.volume.proofs.SnapshotLaws.{laid-says}
 
 -- the bytes of a range as the code holds it
-abbrev pub rangeOut : LogRange → List ℕ
+abbrev rangeOut : LogRange → List ℕ
 rangeOut r = rangeBytes .spell (rangeSays r)
 
 pub range-is : (r : LogRange) → (r .log ++ bytesOf 8 (r .start .0)) ++ bytesOf 8 (r .end .0) ≡ rangeOut r
@@ -35,7 +36,7 @@ unfolding rangeBytes
 range-is r = append-assoc (r .log) (bytesOf 8 (r .start .0)) (bytesOf 8 (r .end .0))
 
 -- of a log of 16 bytes they are 32
-pub length-range : (r : LogRange) → length (r .log) ≡ 16 → length (rangeOut r) ≡ 32
+length-range : (r : LogRange) → length (r .log) ≡ 16 → length (rangeOut r) ≡ 32
 length-range r e =
     ap length (sym (range-is r))
     ∙ length-append (r .log ++ bytesOf 8 (r .start .0)) (bytesOf 8 (r .end .0))
@@ -43,19 +44,10 @@ length-range r e =
 
 -- ---- records one after another
 
-flat-append : {A : Type 0} (e : A → List ℕ) (xs ys : List A) → flat e (xs ++ ys) ≡ flat e xs ++ flat e ys
-unfolding flat
-flat-append e [] ys = refl
-flat-append e (x ∷ xs) ys = ap (λ l. e x ++ l) (flat-append e xs ys) ∙ sym (append-assoc (e x) (flat e xs) (flat e ys))
-
 flat-map : {A B : Type 0} (e : B → List ℕ) (f : A → B) (xs : List A) → flat e (map f xs) ≡ flat (λ x. e (f x)) xs
 unfolding flat
 flat-map e f [] = refl
 flat-map e f (x ∷ xs) = ap (λ l. e (f x) ++ l) (flat-map e f xs)
-
-flat-one : {A : Type 0} (e : A → List ℕ) (x : A) → flat e (x ∷ []) ≡ e x
-unfolding flat
-flat-one e x = append-nil (e x)
 
 -- ---- the loop: t is s with the first i ranges stored
 

@@ -17,12 +17,12 @@ use Rattle.octets.specs.Bytes.{AreBytes}
 use Rattle.rules.specs.Lists.{isNone, given}
 use Rattle.rules.specs.Records.{Id, Commit, Pending, Volume, volumeKey}
 use Rattle.rules.specs.Forms.{bytesForm, idForm, lsnForm, syncForm, pendingForm, volumeForm}
-use Rattle.rules.specs.Tables.{Table, store, getVolume, latestLsn, volumesFormed, commitsFormed}
+use Rattle.rules.specs.Tables.{Table, store, getVolume, latestLsn}
 use Rattle.rules.specs.Snapshots.{watermarkOf, remoteOf, below}
 use Rattle.rules.specs.Sync.{changed, changes, movedVolume, notOlder, syncBy, sync}
 use Rattle.rules.specs.Push.{withPending, isBefore, prepare}
 use Rattle.rules.proofs.TableLaws.{cases, missing, option-same, and-fst, and-snd, and-both}
-use Rattle.rules.proofs.Kept.{mark-form, remote-form, moved-form, latest-form}
+use Rattle.rules.proofs.Kept.{mark-form, remote-form, moved-form, latest-form, sync-form}
 use Rattle.rules.proofs.AnswerLaws.{done-same, refused-done}
 use Rattle.table.specs.Records.{spot}
 use Rattle.table.specs.Table.{recs}
@@ -34,7 +34,7 @@ use Rattle.layout.specs.Tables.{volumesIn, volumesOk, commitsIn, commitsOk}
 use Rattle.layout.proofs.LentLaws.{lent-yes, changed as stores}
 use Rattle.layout.proofs.PlaceLaws.{all-bytes}
 use Rattle.rows.specs.Lookups.{nth, atSpot}
-use Rattle.rows.proofs.Rows.{formed-rules, formed-forms, laid-same}
+use Rattle.rows.proofs.Rows.{formed-forms, laid-same}
 use Rattle.rows.proofs.Tables.{volumes, commits}
 use Rattle.volume.specs.Volumes.{maybeLsnSays, syncSays, pendingSays, changesSays, volumeSays}
 use Rattle.volume.specs.declared.volume.MaybeLsn.{MaybeLsn}
@@ -47,6 +47,7 @@ use Rattle.core.specs.declared.lsn.Lsn.{Lsn}
 use Rattle.volumebytes.specs.Laid.{volumeLaid}
 use Rattle.volumebytes.proofs.RoundLaws.{says-laid}
 use Rattle.volumecalls.proofs.Ends.{made-of, here, found-form, found-vid}
+use Rattle.viewcalls.proofs.Ends.{formed}
 use Rattle.synccalls.specs.Pulls.{syncFound, pullSays, pullForm, Pulls}
 use Rattle.synccalls.specs.declared.Pull.{Pull}
 use Rattle.synccalls.specs.declared.Pull.the-variants as Pull
@@ -57,11 +58,6 @@ lsn-counts : (o : Option ℕ) → given lsnForm o ≡ true → given counts o �
 unfolding lsnForm
 lsn-counts none e = refl
 lsn-counts (some n) e = and-fst _ _ e
-
-module _ (v : Volume) (h : volumeForm v ≡ true) where
-  sync-form : given syncForm (v .sync) ≡ true
-  unfolding volumeForm
-  sync-form = and-snd (idForm (v .vid) && idForm (v .local) && idForm (v .remote)) (given syncForm (v .sync)) (and-fst _ (given pendingForm (v .pending)) h)
 
 -- ---- changes of a log since a base that is in form
 
@@ -141,9 +137,6 @@ module _ (cs : Table Commit) (v : Volume) (r : ChangesAnswer) (e : changesSays r
 -- ---- sync on lent tables
 
 module _ (t u : List ℕ) (vid : Id) (ok : volumesOk t ≡ true) (oku : commitsOk u ≡ true) where
-  formed : (volumesFormed (volumesIn t) && commitsFormed (commitsIn u)) ≡ true
-  formed = and-both (formed-rules volumes t ok) (formed-rules commits u oku)
-
   synced : Option Volume → Answer (Table Volume)
   synced o = need o 4 >>= (λ v. syncFound (volumesIn t) (commitsIn u) v)
 
@@ -151,7 +144,7 @@ module _ (t u : List ℕ) (vid : Id) (ok : volumesOk t ≡ true) (oku : commitsO
   unfolding sync synced
   sync-is =
       lent-yes (volumesOk t && commitsOk u) (sync (volumesIn t) (commitsIn u) vid) (and-both ok oku)
-      ∙ ap (λ (b : Bool). ask b 20 >> synced (getVolume (volumesIn t) vid)) formed
+      ∙ ap (λ (b : Bool). ask b 20 >> synced (getVolume (volumesIn t) vid)) (formed t u vid ok oku)
 
   -- 4
   pub sync-nowhere : getVolume (volumesIn t) vid ≡ none → lent (volumesOk t && commitsOk u) (sync (volumesIn t) (commitsIn u) vid) ≡ refused 4

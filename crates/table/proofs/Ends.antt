@@ -1,4 +1,4 @@
--- What `put` and `room` hand on and answer, by where the key stands; and the laws that callers cite of a table after a put and after a removal.
+-- What `put` and `room` hand on and answer, by where the key stands; and the laws that callers cite of a table that was laid, and of one after a removal.
 use mathlib.Core.Path.{_≡_, sym, ap, _∙_}
 use mathlib.Core.Bool.{Bool, true}
 use mathlib.Core.List.{List}
@@ -12,8 +12,8 @@ use Rattle.table.specs.Records.{rises, spot, inserted, removed, put}
 use Rattle.table.specs.Table.{Each, countOf, capOf, recs, laid, wellOrdered, holds, fits}
 use Rattle.table.specs.declared.Spot.{Spot}
 use Rattle.table.specs.declared.Spot.the-variants.{At, Gap}
-use Rattle.table.proofs.Rows.{rows-lt, cap-small, cap-room, room-cap, fits-cap, length-recs, each-recs, length-laid, countOf-laid, recs-laid}
-use Rattle.table.proofs.Spots.{at-lt, gap-le, put-at, put-gap, length-put-at, length-put-gap, length-put-le, each-put, rises-put, each-removed, rises-removed, length-removed}
+use Rattle.table.proofs.Rows.{cap-small, cap-room, room-cap, fits-cap, length-recs, each-recs, length-laid, countOf-laid, recs-laid}
+use Rattle.table.proofs.Spots.{at-lt, gap-le, put-at, put-gap, length-put-at, length-put-gap, length-put-le, each-removed, rises-removed, length-removed}
 use Rattle.table.proofs.Checks.{well-two, well-count, well-rises, well-room, well-made}
 
 -- ---- room
@@ -71,12 +71,7 @@ module _ (s k : ℕ) (t r : List ℕ) (i : ℕ) (o : Spot) (f : o ≡ spot k r (
 
   pub room-gap : o ≡ Gap i → (b : Bool) → b ≡ holds s (countOf t + 1) t → b ≡ fits s (put k r (recs s t)) t
   room-gap e b g = g ∙ sym (fits-by s (countOf t + 1) (put k r (recs s t)) t (one-more e))
-
   -- ---- what was found
-
-  -- the bytes of the record that was found are within t
-  pub at-room : 0 < s → wellOrdered s k t ≡ true → o ≡ At i → 2 + i * s + s ≤ length t
-  at-room p w e = omega (arith, rows-lt s (at-in e), well-room s k t p w)
 
 -- ---- a table that was laid
 
@@ -100,11 +95,6 @@ laid-holds s k rs t p two e f r =
       rows = rows;
       size = l;
     }
-
-pub after-put : (s k : ℕ) (t r : List ℕ) → 0 < s → length r ≡ s → wellOrdered s k t ≡ true → fits s (put k r (recs s t)) t ≡ true
-    → Holds s k (put k r (recs s t)) t (laid (put k r (recs s t)) t)
-after-put s k t r p e w f =
-    laid-holds s k (put k r (recs s t)) t p (well-two s k t w) (each-put s k r (recs s t) e (each-recs s t (well-room s k t p w))) f (rises-put k r (recs s t) (well-rises s k t w))
 
 pub after-remove : (s k : ℕ) (t : List ℕ) (i : ℕ) → 0 < s → wellOrdered s k t ≡ true → i < countOf t
     → Holds s k (removed i (recs s t)) t (laid (removed i (recs s t)) t)

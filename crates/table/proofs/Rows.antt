@@ -2,15 +2,17 @@
 -- from i up to j give way to others, which is the count stored over the front and one run of bytes stored at record i.
 use mathlib.Core.Path.{_≡_, refl, sym, ap, ap₂, _∙_, subst}
 use mathlib.Core.Bool.{true}
-use mathlib.Core.List.{List, [], _∷_, _++_, append-assoc, append-nil}
+use mathlib.Core.List.{List, [], _∷_, _++_, map, append-assoc, append-nil, map-append}
 use Prim.Native.Nat.{ℕ, zero, suc, _+_, _-_, _*_, _/_, _≤_, _<_}
 use native.Mathlib.Nat.{le-of-suc-le-suc, not-suc-le-zero, add-zero, zero-mul, mul-le-mul-right, sub-add-cancel, add-mul, min-le-left, min-le-right, le-min, le-div-iff-mul-le}
+use native.Mathlib.Numerals.{add-one}
 use native.Mathlib.Omega.{arith}
-use lib.ListN.{length, take, drop, getD, length-append, length-drop, take-append-drop}
+use lib.ListN.{length, take, drop, getD, length-append, length-drop}
 use lib.Seq.{length-take-le}
 use borrow.Author.Tests.{leb-true}
 use Rattle.octets.specs.Bytes.{be, bytesOf, part, AreBytes}
 use Rattle.octets.specs.Bytes as B
+use Rattle.octets.specs.Tab.{tab}
 use Rattle.octets.proofs.Numbers as N
 use Rattle.octets.proofs.Places as P
 use Rattle.table.specs.Table.{runs, join, Each, countOf, capOf, recs, laid, holds}
@@ -89,6 +91,15 @@ module _ (s : ℕ) where
   each-runs zero at t h = tt
   each-runs (suc n) at t h = (P.length-part at s t (omega arith), each-runs n (at + s) t (omega arith))
 
+-- an array filled with what each run spells, one by one
+pub tab-runs : {A : Type 0} (f : List ℕ → A) (s n at : ℕ) (t : List ℕ) → tab (λ i. f (part (at + i * s) s t)) n ≡ map f (runs n s at t)
+unfolding tab runs
+tab-runs f s zero at t = refl
+tab-runs f s (suc n) at t =
+    ap (λ l. l ++ (f (part (at + n * s) s t) ∷ [])) (tab-runs f s n at t)
+    ∙ sym (map-append f (runs n s at t) (part (at + n * s) s t ∷ []))
+    ∙ ap (map f) (sym (runs-last s n at t) ∙ ap (λ (m : ℕ). runs m s at t) (add-one n))
+
 -- ---- `join` and `Each`
 
 pub join-append : (a b : List (List ℕ)) → join (a ++ b) ≡ join a ++ join b
@@ -129,7 +140,7 @@ module _ (s : ℕ) where
   each-drop (suc i) (x ∷ a) h = each-drop i a (h .1)
 
   -- the runs where the bytes of records stand are those records
-  pub runs-join : (rs : List (List ℕ)) (at : ℕ) (t : List ℕ) → Each s rs → part at (length rs * s) t ≡ join rs → runs (length rs) s at t ≡ rs
+  runs-join : (rs : List (List ℕ)) (at : ℕ) (t : List ℕ) → Each s rs → part at (length rs * s) t ≡ join rs → runs (length rs) s at t ≡ rs
   unfolding runs join
   runs-join [] at t h e = refl
   runs-join (r ∷ rs) at t h e =
@@ -150,7 +161,7 @@ pub cap-small : (s n : ℕ) (t : List ℕ) → n ≤ capOf s t → n ≤ 65535
 unfolding capOf
 cap-small s n t h = omega (arith, min-le-right ((length t - 2) / s) 65535)
 
-pub cap-rows : (s n : ℕ) (t : List ℕ) → 0 < s → n ≤ capOf s t → n * s ≤ length t - 2
+cap-rows : (s n : ℕ) (t : List ℕ) → 0 < s → n ≤ capOf s t → n * s ≤ length t - 2
 unfolding capOf
 cap-rows s n t p h =
     let a : n ≤ (length t - 2) / s = omega (arith, min-le-left ((length t - 2) / s) 65535) in
@@ -196,7 +207,7 @@ pub key-at : (s k at : ℕ) (t : List ℕ) → k ≤ s → part 0 k (part at s t
 key-at s k at t h = P.part-part at s 0 k t (omega arith) ∙ ap (λ (m : ℕ). part m k t) (add-zero at)
 
 -- the size of a table's front
-pub length-front : (s : ℕ) (rs : List (List ℕ)) → Each s rs → length (bytesOf 2 (length rs) ++ join rs) ≡ 2 + length rs * s
+length-front : (s : ℕ) (rs : List (List ℕ)) → Each s rs → length (bytesOf 2 (length rs) ++ join rs) ≡ 2 + length rs * s
 length-front s rs h = P.length-two 2 (length rs * s) (bytesOf 2 (length rs)) (join rs) (N.length-bytesOf 2 (length rs)) (length-join s rs h)
 
 module _ (s : ℕ) (rs : List (List ℕ)) (t : List ℕ) (h : Each s rs) (g : 2 + length rs * s ≤ length t) where
@@ -221,33 +232,6 @@ module _ (s : ℕ) (rs : List (List ℕ)) (t : List ℕ) (h : Each s rs) (g : 2 
     unfolding recs
     recs-laid = ap (λ (n : ℕ). runs n s 2 (laid rs t)) countOf-laid ∙ runs-join s rs 2 (laid rs t) h (laid-apart .1)
 
--- over what was put at the same place and is no longer
-put-wider : (at : ℕ) (xs ys t : List ℕ) → length xs ≤ length ys → at + length ys ≤ length t → B.put at ys (B.put at xs t) ≡ B.put at ys t
-put-wider at xs ys t l h =
-    let n : ℕ = length xs in
-    let a : List ℕ = take n ys in
-    let b : List ℕ = drop n ys in
-    let la : length a ≡ n = length-take-le n ys l in
-    let lb : length b ≡ length ys - n = length-drop n ys in
-    let lx : length (B.put at xs t) ≡ length t = P.length-put at xs t (omega arith) in
-    let cut : (u : List ℕ) → length u ≡ length t → B.put at ys u ≡ B.put (at + n) b (B.put at a u) =
-    λ u e. ap (λ (y : List ℕ). B.put at y u) (sym (take-append-drop n ys)) ∙ sym (P.put-next at n (length ys - n) a b u la lb (omega arith)) in
-    cut (B.put at xs t) lx
-    ∙ ap (B.put (at + n) b) (P.put-again at xs a t (sym la) (omega arith))
-    ∙ sym (cut t refl)
-
--- over what was put within the same bytes
-pub put-within : (at bt : ℕ) (xs ys t : List ℕ) → at ≤ bt → bt + length xs ≤ at + length ys → at + length ys ≤ length t → B.put at ys (B.put bt xs t) ≡ B.put at ys t
-put-within at bt xs ys t ab l h =
-    let m : ℕ = bt - at in
-    let e : at + m ≡ bt = omega arith in
-    let x : List ℕ = part at m t in
-    let lx : length x ≡ m = P.length-part at m t (omega arith) in
-    let w : B.put bt xs t ≡ B.put at (x ++ xs) t =
-    ap₂ (λ (n : ℕ) (u : List ℕ). B.put n xs u) (sym e) (sym (P.put-part at m t (omega arith)))
-    ∙ P.put-next at m (length xs) x xs t lx refl (omega arith) in
-    ap (B.put at ys) w ∙ put-wider at (x ++ xs) ys t (omega (arith, length-append x xs)) h
-
 -- a table laid over a table with no more records: what the first left is gone
 pub laid-laid : (s : ℕ) (ps qs : List (List ℕ)) (t : List ℕ) → Each s ps → Each s qs → length ps ≤ length qs → 2 + length qs * s ≤ length t → laid qs (laid ps t) ≡ laid qs t
 unfolding laid
@@ -257,7 +241,7 @@ laid-laid s ps qs t hp hq l g =
     let la : length a ≡ 2 + length ps * s = length-front s ps hp in
     let lb : length b ≡ 2 + length qs * s = length-front s qs hq in
     let m : length ps * s ≤ length qs * s = rows-le s l in
-    put-wider 0 a b t (omega arith) (omega arith)
+    P.put-wider 0 a b t (omega arith) (omega arith)
 
 -- a table laid over itself
 pub laid-self : (s : ℕ) (t : List ℕ) → AreBytes t → 2 + countOf t * s ≤ length t → laid (recs s t) t ≡ t
@@ -272,7 +256,7 @@ laid-self s t b h =
 -- ---- the bytes of a table whose records from i up to j give way to those of b
 
 module _ (s : ℕ) (t : List ℕ) (i j : ℕ) (b : List (List ℕ)) (ij : i ≤ j) (jn : j ≤ countOf t) (h : 2 + countOf t * s ≤ length t) (e : Each s b) where
-  pub length-parts : length (take i (recs s t) ++ (b ++ drop j (recs s t))) ≡ i + (length b + (countOf t - j))
+  length-parts : length (take i (recs s t) ++ (b ++ drop j (recs s t))) ≡ i + (length b + (countOf t - j))
   length-parts =
       simp (length-append, length-drop, length-recs)
       (omega (arith, length-take-le i (recs s t) (omega (arith, length-recs s t))))

@@ -58,7 +58,7 @@ module _ (k : ℕ) (a b : List ℕ) where
         rw (not-less (cmp k (getD rs j []) a) (from-place k a rs j r l n), not-less (cmp k b (getD rs j [])) (before-past k b rs j m))
 
     -- the records from one place up to the other are those whose keys lie between
-    pub run-is : take (past (spot k b rs) - place (spot k a rs)) (drop (place (spot k a rs)) rs) ≡ run k a b rs
+    run-is : take (past (spot k b rs) - place (spot k a rs)) (drop (place (spot k a rs)) rs) ≡ run k a b rs
     run-is = go (decLt (past (spot k b rs)) (place (spot k a rs)))
       where
         p : ℕ

@@ -38,7 +38,7 @@ module _ (k : ℕ) (key : List ℕ) where
   stands-step x rs Greater (At i) e h = (suc-le-suc (h .0), h .1)
   stands-step x rs Greater (Gap i) e h = (suc-le-suc (h .0), λ l. h .1 (le-of-suc-le-suc l))
 
-  pub stands : (rs : List (List ℕ)) → Stands k key rs (spot k key rs)
+  stands : (rs : List (List ℕ)) → Stands k key rs (spot k key rs)
   stands [] = (omega arith, λ l. absurd (not-suc-le-zero l))
   stands (x ∷ rs) = stands-step x rs (cmp k key x) (spot k key rs) refl (stands rs)
 
@@ -113,11 +113,6 @@ module _ (k : ℕ) (key : List ℕ) where
             let z : _≡_ {A = ℕ} 0 1 = cc in
             absurd (omega arith)
         go (Gap j) f h = let d : i ≡ j = p ∙ ap place f in f ∙ ap Gap (sym d)
-
--- a key that stands for another stands where it does
-pub spot-like : (k : ℕ) (a b : List ℕ) (rs : List (List ℕ)) → cmp k a b ≡ Equal → spot k a rs ≡ spot k b rs
-spot-like k a b [] e = refl
-spot-like k a b (x ∷ rs) e = rw (cmp-left k a b e x, spot-like k a b rs e)
 
 pub look-like : (k : ℕ) (a b : List ℕ) (rs : List (List ℕ)) → cmp k a b ≡ Equal → look k a rs ≡ look k b rs
 look-like k a b [] e = refl

@@ -114,7 +114,7 @@ module _ (t : List ℕ) (name : Name) (vid : Id) (ok : tagsOk t ≡ true) where
   abbrev pub stored : Table Tag
   stored = store tagKey bytes (tagOf (name, vid)) (tagsIn t)
 
-  abbrev pub storing : Answer (Option Id × Table Tag)
+  abbrev storing : Answer (Option Id × Table Tag)
   storing = ask (fits stored) 19 >> done (tagged (tagsIn t) name, stored)
 
   pub replace-no-name : nameLength name ≡ false → lent (tagsOk t) (tagReplace (tagsIn t) name vid) ≡ refused 1

@@ -4,17 +4,18 @@ use Prim.Native.Nat.{ℕ, _≤_}
 use mathlib.Core.Path.{_≡_, refl, sym, ap, _∙_}
 use mathlib.Core.List.{List}
 use mathlib.Core.Option.{Option, none, some}
-use mathlib.Core.Bool.{Bool, true, false, cond, _&&_}
+use mathlib.Core.Bool.{Bool, true, false, _&&_}
 use native.Mathlib.Omega.{arith}
 use borrow.Author.Tests.{eq-eqb, ne-eqb, le-leb}
 use lib.Dec.{eqb}
 use lib.ListN.{length}
 use Rattle.core.specs.Answers.{Answer, refused, done, code, ask, need, _>>_, _>>=_}
 use Rattle.rules.specs.Records.{Id, Commit, Volume, Snapshot}
-use Rattle.rules.specs.Tables.{Table, getVolume, getCommit, latest, volumesFormed, commitsFormed}
+use Rattle.rules.specs.Tables.{Table, getVolume, volumesFormed, commitsFormed}
 use Rattle.rules.specs.Arguments.{snapshotLsns, snapshotOrder, snapshotForm}
-use Rattle.rules.specs.Snapshots.{watermarkOf, remoteOf, below, remotePath, remoteTo, remoteSnapshot, localSnapshot, snapshotBy, snapshotOf, snapshot, isLatest, latestCheck}
+use Rattle.rules.specs.Snapshots.{snapshotOf, snapshot, isLatest, latestCheck}
 use Rattle.rules.proofs.TableLaws.{cases, and-fst, and-snd}
+use Rattle.rules.proofs.Facts.{few-ranges}
 use Rattle.layout.specs.Values.{snapshotBytes}
 use Rattle.layout.specs.Tables.{volumesIn, volumesOk, commitsIn, commitsOk}
 use Rattle.layout.specs.Lent.{lent}
@@ -31,32 +32,6 @@ use Rattle.arguments.specs.Replies.{none-under, given, value, placed}
 use Rattle.arguments.specs.Snapshots.{snapshotIn, snapshotFormed, snapshotPut}
 use Rattle.arguments.proofs.SnapshotLaws.{snapshot-size, laid-formed, in-few, put-refused, put-whole, answer-formed, laid-code}
 use Rattle.viewargs.specs.Views.{latestIn, unformed}
-
--- ---- a volume's snapshot has at most two ranges
-
-few-remote : (v : Volume) (o : Option Commit) → length (remoteTo v o .path) ≤ 8
-few-remote v none = omega arith
-few-remote v (some c) = omega arith
-
-few-synced : (cs : Table Commit) (v : Volume) (o : Option ℕ) → length (remoteSnapshot cs v o .path) ≤ 8
-few-synced cs v none = omega arith
-few-synced cs v (some n) = few-remote v (getCommit cs (v .remote) n)
-
-few-after : (v : Volume) (o : Option ℕ) → length (remotePath v o) ≤ 1
-few-after v none = omega arith
-few-after v (some n) = omega arith
-
-few-by : (cs : Table Commit) (v : Volume) (o : Option Commit) → length (snapshotBy cs v o .path) ≤ 8
-few-by cs v none = few-synced cs v (remoteOf (v .sync))
-few-by cs v (some c) = go (below (watermarkOf (v .sync)) (c .lsn))
-  where
-    go : (b : Bool) → length (cond b (localSnapshot v c) (remoteSnapshot cs v (remoteOf (v .sync))) .path) ≤ 8
-    go true = omega (arith, few-after v (remoteOf (v .sync)))
-    go false = few-synced cs v (remoteOf (v .sync))
-
-pub few-ranges : (cs : Table Commit) (v : Volume) → length (snapshotOf cs v .path) ≤ 8
-unfolding snapshotOf
-few-ranges cs v = few-by cs v (latest cs (v .local))
 
 -- ---- past 20 a snapshot's rule has 4, or a snapshot
 

@@ -20,7 +20,7 @@ use Rattle.volume.specs.declared.snapshot.LogRange.{LogRange}
 use Rattle.volume.specs.Snapshots.{rangeSays, laidRange, noRange, isZeroRange, firstEnd}
 
 module _ {A : Type 0} (f : A → Bool) (d : A) (xs : List A) (n i : ℕ) where
-  pub turn : i < n → i < length xs → all f (drop i (take n xs)) ≡ f (getD xs i d) && all f (drop (i + 1) (take n xs))
+  turn : i < n → i < length xs → all f (drop i (take n xs)) ≡ f (getD xs i d) && all f (drop (i + 1) (take n xs))
   turn h k =
       let l : i < length (take n xs) = simp length-take (omega arith) in
       rw (add-one i, ← getD-take n xs i d h) (all-step f (take n xs) d i l)
@@ -56,7 +56,7 @@ range-same : (l m : List ℕ) (a b c e : ℕ) → l ≡ m → a ≡ b → c ≡ 
 range-same l m a b c e p q r = rw (p, q, r)
 
 -- a range that passes for zero is the zero range
-pub zero-range : (r : LogRange) → isZeroRange r ≡ true → r ≡ noRange
+zero-range : (r : LogRange) → isZeroRange r ≡ true → r ≡ noRange
 zero-range r h =
     let k = and-fst (eqb (r .start .0) 0 && eqb (r .end .0) 0) (isEqual (lex (r .log) (replicate 16 0))) h in
     range-same

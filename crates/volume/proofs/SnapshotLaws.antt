@@ -79,7 +79,7 @@ module _ (s : Snapshot) (r : LogRange) where
           not-formed e = rw (a, b, c, d, e)
 
           -- a snapshot in form is answered as the rule answers
-          pub formed : inForm s ≡ true → snapshotAppend (snapshotSays s) (rangeSays r) ≡ appended s r
+          formed : inForm s ≡ true → snapshotAppend (snapshotSays s) (rangeSays r) ≡ appended s r
           unfolding appended
           formed e = rw (a, b, c, d, e)
 

@@ -41,7 +41,7 @@ module _ (s : List ℕ) (at : ℕ) where
 
 module _ (s : List ℕ) (at : ℕ) where
   -- the hash that stands beside the pending commit
-  pub hash-read : (bt : ℕ) → at + 17 ≡ bt → hashBeside (pendingLaid (optional pendingBytes .read (part at 49 s))) (part bt 32 s) ≡ hashLaid (optional pendingBytes .read (part at 49 s))
+  hash-read : (bt : ℕ) → at + 17 ≡ bt → hashBeside (pendingLaid (optional pendingBytes .read (part at 49 s))) (part bt 32 s) ≡ hashLaid (optional pendingBytes .read (part at 49 s))
   unfolding pendingBytes
   hash-read bt e =
       ap (λ (p : Option rules.Pending). hashBeside (pendingLaid p) (part bt 32 s)) (optional-read s at pendingBytes)
@@ -53,7 +53,7 @@ module _ (s : List ℕ) (at : ℕ) where
       go false p h = sym h
 
   -- a volume
-  pub volume-read : volumeBytes .read (part at 117 s)
+  volume-read : volumeBytes .read (part at 117 s)
       ≡ record { vid = part (at + 1) 16 s; local = part (at + 18) 16 s; remote = part (at + 34) 16 s; sync = optional syncBytes .read (part (at + 50) 18 s); pending = optional pendingBytes .read (part (at + 68) 49 s) }
   unfolding syncBytes pendingBytes volumeBytes
   volume-read =

@@ -61,7 +61,7 @@ laid-hash PendingCommit.Missing hash = refl
 laid-hash (PendingCommit.At m n) hash = refl
 
 -- a value with the hash ZERO beside a missing pending commit is the one of the volume that it says
-pub laid-says : (v : Volume) → v .«pending_hash» ≡ hashBeside (v .pending) (v .«pending_hash») → volumeLaid (volumeSays v) ≡ v
+laid-says : (v : Volume) → v .«pending_hash» ≡ hashBeside (v .pending) (v .«pending_hash») → volumeLaid (volumeSays v) ≡ v
 laid-says v e =
     ap (λ (y : Sync). record { vid = v .vid; local = v .local; remote = v .remote; sync = y; pending = pendingLaid q; «pending_hash» = hashLaid q }) (laid-sync (v .sync))
     ∙ ap₂ (λ (p : PendingCommit) (h : List ℕ). record { vid = v .vid; local = v .local; remote = v .remote; sync = v .sync; pending = p; «pending_hash» = h })

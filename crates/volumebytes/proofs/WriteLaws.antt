@@ -18,7 +18,7 @@ use Rattle.layout.proofs.PlaceLaws.{pair-stored, there-stored, length-stored}
 
 -- ---- the number of bytes of each part
 
-pub length-mark : (w : Option ℕ) → length (optional (number 8) .spell w) ≡ 9
+length-mark : (w : Option ℕ) → length (optional (number 8) .spell w) ≡ 9
 length-mark none = refl
 length-mark (some n) = ap suc (length-bytesOf 8 n)
 

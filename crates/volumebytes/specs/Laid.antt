@@ -3,7 +3,7 @@ use Prim.Native.Nat.{ℕ}
 use mathlib.Core.List.{List}
 use mathlib.Core.Option.{Option, none, some}
 use Rattle.core.specs.Hashes.{zeroHash}
-use Rattle.core.specs.declared.lsn.Lsn.{Lsn}
+use Rattle.core.specs.Says.{lsnLaid}
 use Rattle.rules.specs.Records as rules
 use Rattle.volume.specs.declared.volume.MaybeLsn.{MaybeLsn}
 use Rattle.volume.specs.declared.volume.MaybeLsn.the-variants as MaybeLsn
@@ -13,10 +13,6 @@ use Rattle.volume.specs.declared.volume.Sync.the-variants as Sync
 use Rattle.volume.specs.declared.volume.PendingCommit.{PendingCommit}
 use Rattle.volume.specs.declared.volume.PendingCommit.the-variants as PendingCommit
 use Rattle.volume.specs.declared.volume.Volume.{Volume}
-
--- an LSN
-abbrev pub lsnLaid : ℕ → Lsn
-lsnLaid n = record { 0 = n }
 
 -- an LSN that may be missing
 abbrev pub markLaid : Option ℕ → MaybeLsn

@@ -1,12 +1,13 @@
 -- What the code of the table of volumes makes: a key's bytes, a row's bytes; and that room freed by a removal is used again. Lookups and stores are those of every
 -- table (crate rows), at the layout of volumes.
-use Prim.Native.Nat.{ℕ, _+_}
-use mathlib.Core.Path.{_≡_, ap, _∙_}
-use mathlib.Core.List.{List, _∷_, _++_, append-nil}
+use Prim.Native.Nat.{ℕ}
+use mathlib.Core.Path.{_≡_, _∙_}
+use mathlib.Core.List.{List, _∷_}
 use mathlib.Core.Option.{some}
 use mathlib.Core.Bool.{true}
-use lib.ListN.{length, replicate, drop}
+use lib.ListN.{length, replicate}
 use Rattle.octets.specs.Bytes.{put}
+use Rattle.octets.proofs.Places.{put-behind-zero}
 use Rattle.core.specs.Orders.{bytes}
 use Rattle.rules.specs.Records.{Id, Volume, volumeKey}
 use Rattle.rules.specs.Forms.{volumeForm}
@@ -18,8 +19,7 @@ use Rattle.rows.proofs.Tables.{OkId, volumes, volume-key}
 
 -- the key of an identifier
 pub key-made : (vid key : List ℕ) → length vid ≡ 16 → key ≡ put 1 vid (replicate 17 0) → key ≡ 0 ∷ vid
-unfolding put
-key-made vid key l e = e ∙ ap (λ (n : ℕ). 0 ∷ (vid ++ drop (1 + n) (replicate 17 0))) l ∙ ap (λ (b : List ℕ). 0 ∷ b) (append-nil vid)
+key-made vid key l e = e ∙ put-behind-zero 16 vid l
 
 -- ---- room freed by a removal is used again
 

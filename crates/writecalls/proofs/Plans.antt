@@ -7,7 +7,7 @@ use lib.Dec.{eqb}
 use lib.ListN.{length}
 use borrow.Author.Tests.{eq-eqb, ne-eqb}
 use Rattle.octets.specs.Bytes.{part}
-use Rattle.octets.proofs.Places.{part-all}
+use Rattle.octets.proofs.Places.{part-whole}
 use Rattle.core.specs.Answers.{Answer, refused, done, code, ask, _>>_}
 use Rattle.rules.specs.Forms.{commitForm}
 use Rattle.rules.specs.Arguments.{commitLsns, commitLists}
@@ -44,7 +44,7 @@ module _ (cs ks es b : List ℕ) where
 
     module _ (n : length b ≡ 722) where
       all-of : part 0 722 b ≡ b
-      all-of = ap (λ (m : ℕ). part 0 m b) (sym n) ∙ part-all b
+      all-of = part-whole 722 b n
 
       sized-is : answer ≡ chain true (commitLsns (commitIn b)) (inForm commitBytes commitForm b)
       sized-is = chain-is ∙ ap (λ (x : Bool). chain x (commitLsns (commitIn b)) (inForm commitBytes commitForm b)) (eq-eqb (length b) 722 n)

@@ -22,7 +22,8 @@ use Rattle.rows.proofs.Tables.{commits, index}
 use Rattle.writecalls.specs.declared.Plan.{Plan}
 use Rattle.writecalls.specs.Written.{IsCommit, commitIn, logsIn, freshIn, roomed, planned}
 use Rattle.rules.proofs.Write.{entries-form}
-use Rattle.writecalls.proofs.Rows.{is-form, rows-room}
+use Rattle.rows.proofs.News.{rows-room}
+use Rattle.writecalls.proofs.Rows.{is-form}
 
 -- ---- the commit itself: its bytes are its record
 

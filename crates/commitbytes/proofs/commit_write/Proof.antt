@@ -7,7 +7,7 @@ use Rattle.commit.specs.Says.{commitSays, segmentSays}
 use Rattle.layout.specs.Records.{hashBytes}
 use Rattle.layout.specs.Values.{windowBytes, setBytes, frameBytes, framesBytes, segmentBytes}
 use Rattle.commitbytes.proofs.LsnLaws.{lsns-long}
-use Rattle.commitbytes.proofs.PartLaws.{key-long}
+use Rattle.layout.proofs.PlaceLaws.{key-long}
 use Rattle.commitbytes.proofs.TypeLaws.{log-16, hash-32, segment-594, checkpoints-8}
 use Rattle.commitbytes.proofs.CommitLaws.{given-long, commit-stored}
 use Rattle.commitbytes.proofs.commit_write.Statement.{statement}

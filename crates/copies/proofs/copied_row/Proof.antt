@@ -16,8 +16,8 @@ slice-aggregate-load-all c = search needs
 load-all-requires : tie.Need-load-all-requires
 load-all-requires c κs = search needs
 
-commit-key-requires : tie.Need-commit-key-requires
-commit-key-requires c κs = search needs
+log-key-requires : tie.Need-log-key-requires
+log-key-requires c κs = search needs
 
 slice-aggregate-store-all : tie.Need-slice-aggregate-store-all
 slice-aggregate-store-all c = search needs
@@ -29,7 +29,7 @@ store-all-requires : tie.Need-store-all-requires
 store-all-requires c κs = search needs
 
 returns : tie.Need-returns
-returns c = copy-is ((c .before .before .before .before .before .before .before .before .before .before) .args .commits .now) ((c .before .before .before .before .before .before .before .before .before .before) .pre .0) ((c .before .before .before .before .before .before .before .before .before .before) .args .row) ((c .before .before .before .before .before .before .before .before .before .before) .pre .1) ((c .before .before .before .before .before .before .before .before .before .before) .args .log) (search needs) (λ j. let f : Fits w8 (getD ((c .before .before .before .before .before .before .before .before .before .before) .args .log) j 0) = search needs in f .fits) ((c .before .before .before .before .before .before .before .before .before .before) .args .lsn) ((c .before .before .before .before .before .before .before .before .before .before) .pre .2) (search needs) _ _ _ _ (c .before .before .before .before .before .before .before .before .row .ensures .0) (c .before .before .before .before .before .before .load-all .ensures) (c .before .before .before .before .commit-key .ensures) (c .before .store-all .ensures)
+returns c = copy-is ((c .before .before .before .before .before .before .before .before .before .before) .args .commits .now) ((c .before .before .before .before .before .before .before .before .before .before) .pre .0) ((c .before .before .before .before .before .before .before .before .before .before) .args .row) ((c .before .before .before .before .before .before .before .before .before .before) .pre .1) ((c .before .before .before .before .before .before .before .before .before .before) .args .log) (search needs) (λ j. let f : Fits w8 (getD ((c .before .before .before .before .before .before .before .before .before .before) .args .log) j 0) = search needs in f .fits) ((c .before .before .before .before .before .before .before .before .before .before) .args .lsn) ((c .before .before .before .before .before .before .before .before .before .before) .pre .2) (search needs) _ _ _ _ (c .before .before .before .before .before .before .before .before .row .ensures .0) (c .before .before .before .before .before .before .load-all .ensures) (c .before .before .before .before .log-key .ensures) (c .before .store-all .ensures)
 
 pub copied-row-spec : {M : Type 1} → statement M
 copied-row-spec =
@@ -38,7 +38,7 @@ copied-row-spec =
     row-requires
     slice-aggregate-load-all
     load-all-requires
-    commit-key-requires
+    log-key-requires
     slice-aggregate-store-all
     slice-aggregate-store-all-2
     store-all-requires

@@ -1,22 +1,18 @@
 -- The plan decides: its number leaves all as found; where it goes there is room, and the stores are those of the rule.
 use borrow.Author.Needs.{needs}
-use borrow.Author.Tests.{not-true, not-false}
-use mathlib.Core.Path.{_≡_, refl, sym, ap, _∙_}
-use native.Mathlib.Omega.{arith}
-use Rattle.layout.specs.Tables.{volumesIn, commitsIn}
+use mathlib.Core.Path.{sym, ap, _∙_}
+use Rattle.layout.specs.Tables.{volumesIn}
 use Rattle.writecalls.specs.Written.{logsIn}
 use Rattle.paths.specs.Left.{leftSays}
 use Rattle.copycalls.specs.Making.{ids}
 use Rattle.core.specs.Orders.{bytes}
 use Rattle.rules.specs.Records.{Volume, volumeKey}
 use Rattle.rules.specs.Tables.{fits, store}
-use Rattle.rules.specs.Copies.{newVolume, copied}
+use Rattle.rules.specs.Copies.{copied}
 use Rattle.layout.specs.Records.{volumeBytes}
 use Rattle.layout.specs.Tables.{laidOver}
-use mathlib.Core.List.{List}
-use Prim.Native.Nat.{ℕ}
 use Rattle.copycalls.specs.Making.{made}
-use Rattle.copycalls.proofs.Ends.{left-alone, left-made, goes, refuses}
+use Rattle.copycalls.proofs.Ends.{left-alone, left-made, goes, plan-refuses}
 use Rattle.copycalls.proofs.copy_path.Statement.{statement}
 use Rattle.copycalls.proofs.copy_path.Tie as tie
 
@@ -36,7 +32,7 @@ same-length-4 : tie.Need-same-length-4
 same-length-4 c = search needs
 
 returns : tie.Need-returns
-returns c = left-alone ((c .before .before .before .before .before .before .before .before .before .before .before) .args .volumes .now) ((c .before .before .before .before .before .before .before .before .before .before .before) .args .commits .now) ((c .before .before .before .before .before .before .before .before .before .before .before) .args .checkpoints .now) ((c .before .before .before .before .before .before .before .before .before .before .before) .args .index .now) ((c .before .before .before .before .before .before .before .before .before .before .before) .args .out .now) (made (copied (volumesIn ((c .before .before .before .before .before .before .before .before .before .before .before) .args .volumes .now)) (logsIn ((c .before .before .before .before .before .before .before .before .before .before .before) .args .commits .now) ((c .before .before .before .before .before .before .before .before .before .before .before) .args .checkpoints .now) ((c .before .before .before .before .before .before .before .before .before .before .before) .args .index .now)) (leftSays ((c .before .before .before .before .before .before .before .before .before .before .before) .args .left)) (ids ((c .before .before .before .before .before .before .before .before .before .before .before) .args .vid) ((c .before .before .before .before .before .before .before .before .before .before .before) .args .local) ((c .before .before .before .before .before .before .before .before .before .before .before) .args .remote)))) (c .before .copy-plan .result) (refuses (volumesIn ((c .before .before .before .before .before .before .before .before .before .before .before) .args .volumes .now)) (logsIn ((c .before .before .before .before .before .before .before .before .before .before .before) .args .commits .now) ((c .before .before .before .before .before .before .before .before .before .before .before) .args .checkpoints .now) ((c .before .before .before .before .before .before .before .before .before .before .before) .args .index .now)) (leftSays ((c .before .before .before .before .before .before .before .before .before .before .before) .args .left)) (ids ((c .before .before .before .before .before .before .before .before .before .before .before) .args .vid) ((c .before .before .before .before .before .before .before .before .before .before .before) .args .local) ((c .before .before .before .before .before .before .before .before .before .before .before) .args .remote)) (c .before .copy-plan .result) (c .before .copy-plan .ensures) (c .if1 .taken))
+returns c = left-alone ((c .before .before .before .before .before .before .before .before .before .before .before) .args .volumes .now) ((c .before .before .before .before .before .before .before .before .before .before .before) .args .commits .now) ((c .before .before .before .before .before .before .before .before .before .before .before) .args .checkpoints .now) ((c .before .before .before .before .before .before .before .before .before .before .before) .args .index .now) ((c .before .before .before .before .before .before .before .before .before .before .before) .args .out .now) (made (copied (volumesIn ((c .before .before .before .before .before .before .before .before .before .before .before) .args .volumes .now)) (logsIn ((c .before .before .before .before .before .before .before .before .before .before .before) .args .commits .now) ((c .before .before .before .before .before .before .before .before .before .before .before) .args .checkpoints .now) ((c .before .before .before .before .before .before .before .before .before .before .before) .args .index .now)) (leftSays ((c .before .before .before .before .before .before .before .before .before .before .before) .args .left)) (ids ((c .before .before .before .before .before .before .before .before .before .before .before) .args .vid) ((c .before .before .before .before .before .before .before .before .before .before .before) .args .local) ((c .before .before .before .before .before .before .before .before .before .before .before) .args .remote)))) (c .before .copy-plan .result) (plan-refuses (volumesIn ((c .before .before .before .before .before .before .before .before .before .before .before) .args .volumes .now)) (logsIn ((c .before .before .before .before .before .before .before .before .before .before .before) .args .commits .now) ((c .before .before .before .before .before .before .before .before .before .before .before) .args .checkpoints .now) ((c .before .before .before .before .before .before .before .before .before .before .before) .args .index .now)) (leftSays ((c .before .before .before .before .before .before .before .before .before .before .before) .args .left)) (ids ((c .before .before .before .before .before .before .before .before .before .before .before) .args .vid) ((c .before .before .before .before .before .before .before .before .before .before .before) .args .local) ((c .before .before .before .before .before .before .before .before .before .before .before) .args .remote)) (c .before .copy-plan .result) (c .before .copy-plan .ensures) (c .if1 .taken))
 
 new-volume-requires : tie.Need-new-volume-requires
 new-volume-requires c κs = search needs

@@ -1,19 +1,14 @@
 -- 20 and the arguments, and then the path, without the ranges of the new local log.
 use borrow.Author.Needs.{needs}
 use borrow.Author.Tests.{not-true, not-false}
-use mathlib.Core.Path.{_≡_, refl, sym, ap, _∙_}
-use native.Mathlib.Omega.{arith}
-use mathlib.Core.List.{List, map}
-use lib.ListN.{length, take}
-use Rattle.layout.specs.Tables.{volumesIn}
-use Rattle.volume.specs.Snapshots.{rangeSays}
-use Rattle.rules.specs.Lists.{all, those}
-use Rattle.rules.specs.Records.{Range}
+use mathlib.Core.Path.{sym, ap, _∙_}
+use lib.ListN.{length}
+use Rattle.rules.specs.Lists.{all}
 use Rattle.paths.specs.Left.{otherLog}
-use Rattle.writecalls.specs.Written.{logsIn}
-use Rattle.copycalls.specs.Making.{ids, snapshotOn, logrefOn}
+use Rattle.copycalls.specs.Making.{ids, snapshotOn}
 use Rattle.copycalls.proofs.Asks.{formed, passes}
-use Rattle.copycalls.proofs.Ends.{left-alone, leaves-same, others-only, not-formed, bad-arguments, few-ranges, path-goes}
+use Rattle.arguments.proofs.SnapshotLaws.{arg-few}
+use Rattle.copycalls.proofs.Ends.{left-alone, leaves-same, others-only, not-formed, bad-arguments, path-goes}
 use Rattle.copycalls.proofs.from_snapshot.Statement.{statement}
 use Rattle.copycalls.proofs.from_snapshot.Tie as tie
 
@@ -57,7 +52,7 @@ snapshot-arg-requires : tie.Need-snapshot-arg-requires
 snapshot-arg-requires c κs = search needs
 
 without-requires : tie.Need-without-requires
-without-requires c κs = few-ranges ((c .before .before .before .before .before .before .before .before .before .before .before .before .before .before .before .before) .args .volumes .now) ((c .before .before .before .before .before .before .before .before .before .before .before .before .before .before .before .before) .args .commits .now) ((c .before .before .before .before .before .before .before .before .before .before .before .before .before .before .before .before) .args .checkpoints .now) ((c .before .before .before .before .before .before .before .before .before .before .before .before .before .before .before .before) .args .index .now) ((c .before .before .before .before .before .before .before .before .before .before .before .before .before .before .before .before) .args .snapshot .now) (ids ((c .before .before .before .before .before .before .before .before .before .before .before .before .before .before .before .before) .args .vid) ((c .before .before .before .before .before .before .before .before .before .before .before .before .before .before .before .before) .args .local) ((c .before .before .before .before .before .before .before .before .before .before .before .before .before .before .before .before) .args .remote)) (length ((c .before .before .before .before .before .before .before .before .before .before .before .before .before .before .before .before) .args .out .now)) (sym (not-false _ (c .before .before .before .before .if1 .left)) ∙ c .before .before .before .before .before .tables-formed .ensures) (sym (c .before .before .if2 .left) ∙ c .before .before .before .arguments-number .ensures) (c .before .snapshot-arg .result) (c .before .snapshot-arg .ensures)
+without-requires c κs = arg-few ((c .before .before .before .before .before .before .before .before .before .before .before .before .before .before .before .before) .args .snapshot .now) (c .before .snapshot-arg .result) (c .before .snapshot-arg .ensures)
 
 copy-path-requires : tie.Need-copy-path-requires
 copy-path-requires c κs = (formed ((c .before .before .before .before .before .before .before .before .before .before .before .before .before .before .before .before .before .before .before .before .before .before) .args .volumes .now) ((c .before .before .before .before .before .before .before .before .before .before .before .before .before .before .before .before .before .before .before .before .before .before) .args .commits .now) ((c .before .before .before .before .before .before .before .before .before .before .before .before .before .before .before .before .before .before .before .before .before .before) .args .checkpoints .now) ((c .before .before .before .before .before .before .before .before .before .before .before .before .before .before .before .before .before .before .before .before .before .before) .args .index .now) (sym (not-false _ (c .before .before .before .before .before .before .before .before .before .before .if1 .left)) ∙ c .before .before .before .before .before .before .before .before .before .before .before .tables-formed .ensures), (c .before .before .before .before .before .without .ensures .0, ap (all (otherLog ((c .before .before .before .before .before .before .before .before .before .before .before .before .before .before .before .before .before .before .before .before .before .before) .args .local))) (c .before .before .before .before .before .without .ensures .1) ∙ others-only ((c .before .before .before .before .before .before .before .before .before .before .before .before .before .before .before .before .before .before .before .before .before .before) .args .local) _, passes ((c .before .before .before .before .before .before .before .before .before .before .before .before .before .before .before .before .before .before .before .before .before .before) .args .snapshot .now) (length ((c .before .before .before .before .before .before .before .before .before .before .before .before .before .before .before .before .before .before .before .before .before .before) .args .out .now)) (sym (c .before .before .before .before .before .before .before .before .if2 .left) ∙ c .before .before .before .before .before .before .before .before .before .arguments-number .ensures) .place))

@@ -25,14 +25,14 @@ eight c = search needs
 loop-holds : tie.Need-loop-holds Inv-loop μ-loop
 loop-holds c = (omega arith, search needs, stored-none (c .args .log) (long (c)) (c .args .t2) _)
 
-mul-checkpoint-key : tie.Need-mul-checkpoint-key Inv-loop μ-loop
-mul-checkpoint-key c = omega arith
+mul-lsn : tie.Need-mul-lsn Inv-loop μ-loop
+mul-lsn c = omega arith
 
-array-copy-out-checkpoint-key : tie.Need-array-copy-out-checkpoint-key Inv-loop μ-loop
-array-copy-out-checkpoint-key c = omega arith
+array-copy-out-lsn : tie.Need-array-copy-out-lsn Inv-loop μ-loop
+array-copy-out-lsn c = omega arith
 
-checkpoint-key-requires : tie.Need-checkpoint-key-requires Inv-loop μ-loop
-checkpoint-key-requires c κs = search needs
+log-key-requires : tie.Need-log-key-requires Inv-loop μ-loop
+log-key-requires c κs = search needs
 
 slice-aggregate-store-all : tie.Need-slice-aggregate-store-all Inv-loop μ-loop
 slice-aggregate-store-all c = search needs
@@ -45,7 +45,7 @@ slice-aggregate-store-all-2 c = search needs
 
 store-all-requires : tie.Need-store-all-requires Inv-loop μ-loop
 store-all-requires c κs =
-    let k : length (c .before .before .checkpoint-key .result) ≡ 25 = search needs in
+    let k : length (c .before .before .log-key .result) ≡ 25 = search needs in
     omega (arith, c .before .before .before .before .before .loop .inv .1)
 
 add-i : tie.Need-add-i Inv-loop μ-loop
@@ -60,7 +60,7 @@ loop-again c =
     let l = c .before .before .before .before .before .before .before .loop in (
       omega arith,
       omega (arith, c .before .store-all .kept .0, l .inv .1),
-      stored-more (a .log) (long (c .before .before .before .before .before .before .before .before)) (a .t2) (l .i) (c .before .before .before .before .checkpoint-key .result) (l .rows) _ (omega (arith, eight (c .before .before .before .before .before .before .before .before))) (omega (arith, l .inv .1)) (c .before .before .before .before .checkpoint-key .ensures) (c .before .store-all .ensures) (l .inv .2),
+      stored-more (a .log) (long (c .before .before .before .before .before .before .before .before)) (a .t2) (l .i) (c .before .before .before .before .log-key .result) (l .rows) _ (omega (arith, eight (c .before .before .before .before .before .before .before .before))) (omega (arith, l .inv .1)) (c .before .before .before .before .log-key .ensures) (c .before .store-all .ensures) (l .inv .2),
     )
 
 returns : tie.Need-returns Inv-loop μ-loop
@@ -76,9 +76,9 @@ checkpoint-rows-spec =
     Inv-loop
     μ-loop
     loop-holds
-    mul-checkpoint-key
-    array-copy-out-checkpoint-key
-    checkpoint-key-requires
+    mul-lsn
+    array-copy-out-lsn
+    log-key-requires
     slice-aggregate-store-all
     mul-store-all
     slice-aggregate-store-all-2

@@ -6,7 +6,8 @@ use Rattle.layout.specs.Records.{commitBytes}
 use Rattle.layout.proofs.LentLaws.{lent-no}
 use Rattle.resultlists.proofs.EntryLaws.{slots-room}
 use Rattle.resultlists.proofs.AnswerLaws.{left-refused}
-use Rattle.listcalls.proofs.PathLaws.{arg-few, commits-refused, commits-short, commits-put}
+use Rattle.arguments.proofs.SnapshotLaws.{arg-few}
+use Rattle.listcalls.proofs.PathLaws.{commits-refused, commits-short, commits-put}
 use borrow.Author.Needs.{needs}
 use Rattle.listcalls.proofs.snapshot_commits.Statement.{statement}
 use Rattle.listcalls.proofs.snapshot_commits.Tie as tie

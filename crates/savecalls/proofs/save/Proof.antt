@@ -1,5 +1,5 @@
 -- 20, the arguments, the plan and the store, one after another: a refusal leaves every byte, and else the next decides.
-use mathlib.Core.Path.{_≡_, refl, sym, ap, _∙_}
+use mathlib.Core.Path.{refl, sym, ap, _∙_}
 use native.Mathlib.Omega.{arith}
 use borrow.Author.Tests.{not-true, not-false}
 use Rattle.rules.specs.Records.{Pages}
@@ -9,7 +9,8 @@ use Rattle.rows.proofs.Tables.{volumes}
 use Rattle.volume.specs.Volumes.{volumeSays}
 use Rattle.writecalls.specs.Written.{logsIn}
 use Rattle.savecalls.specs.Saving.{stored}
-use Rattle.savecalls.proofs.Forms.{Formed, formed, Good, good, few-ranges, set-long, set-laid}
+use Rattle.arguments.proofs.SnapshotLaws.{arg-few}
+use Rattle.savecalls.proofs.Forms.{formed, good, set-long, set-laid}
 use Rattle.savecalls.proofs.Plans.{says-no, says-yes, planned-is, goes}
 use Rattle.savecalls.proofs.Ends.{left-alone, leaves-same, not-formed, bad-arguments, no-plan, by-store}
 use borrow.Author.Needs.{needs}
@@ -63,7 +64,7 @@ save-plan-requires : tie.Need-save-plan-requires
 save-plan-requires c κs =
     let a = (c .before .before .before .before .before .before .before .before .before .before .before .before .before .before .before .before .before .before .before) .args in
     let f = formed (a .volumes .now) (a .commits .now) (a .checkpoints .now) (a .index .now) (a .presence .now) (sym (sym (not-false _ (c .before .before .before .before .before .if1 .left)) ∙ c .before .before .before .before .before .before .tables-formed .ensures)) in
-    (f .volumes, f .commits, f .presence, few-ranges (a .snapshot .now) (c .snapshot-arg .result) (c .snapshot-arg .ensures))
+    (f .volumes, f .commits, f .presence, arg-few (a .snapshot .now) (c .snapshot-arg .result) (c .snapshot-arg .ensures))
 
 same-length-9 : tie.Need-same-length-9
 same-length-9 c = search needs

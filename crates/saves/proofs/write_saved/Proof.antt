@@ -13,7 +13,7 @@ use Rattle.rules.specs.Records.{Commit}
 use Rattle.rules.specs.Forms.{countForm, commitForm}
 use Rattle.rules.specs.Save.{savedCommit}
 use Rattle.volume.specs.Volumes.{volumeSays}
-use Rattle.setbytes.proofs.LaidLaws.{shown-form}
+use Rattle.pageset.proofs.FormLaws.{shown-form}
 use borrow.Author.Needs.{needs}
 use Rattle.rules.proofs.Kept.{saved-form}
 use Rattle.layout.proofs.PlaceLaws.{id-form}

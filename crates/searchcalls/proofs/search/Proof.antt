@@ -7,7 +7,8 @@ use Rattle.rules.specs.Search.{searchPath}
 use Rattle.layout.specs.Records.{commitBytes}
 use Rattle.layout.specs.Tables.{commitsIn, indexIn}
 use Rattle.arguments.specs.Replies.{valueOr}
-use Rattle.searchcalls.proofs.CallLaws.{no-commits, no-index, zero-lsn, zero-page, start-above, no-form, no-place, searched, arg-lsns, arg-order, arg-path, arg-few}
+use Rattle.arguments.proofs.SnapshotLaws.{arg-few}
+use Rattle.searchcalls.proofs.CallLaws.{no-commits, no-index, zero-lsn, zero-page, start-above, no-form, no-place, searched, arg-lsns, arg-order, arg-path}
 use borrow.Author.Needs.{needs}
 use Rattle.searchcalls.proofs.search.Statement.{statement}
 use Rattle.searchcalls.proofs.search.Tie as tie

@@ -1,17 +1,15 @@
 -- Its fields are stored one after another; a segment that is laid out has a set and frames that are. Assumes nothing.
 use native.Mathlib.Omega.{arith}
-use Prim.Native.Nat.{ℕ, _≤_}
-use mathlib.Core.Path.{_≡_, ap}
+use Prim.Native.Nat.{_≤_}
+use mathlib.Core.Path.{ap}
 use lib.ListN.{length, length-take}
-use mir.Val.{Val}
-use denote.Laws.{Is}
-use denote.Struct.Declared.{row}
 use borrow.Author.Needs.{needs}
 use Rattle.pageset.specs.Sets.{shown}
 use Rattle.commit.specs.declared.SegmentIdx.{SegmentIdx}
 use Rattle.commit.specs.Says.{segmentSays}
+use Rattle.commit.proofs.RecordLaws.{long-of}
 use Rattle.setbytes.proofs.WindowLaws.{set-long}
-use Rattle.segmentbytes.proofs.TypeLaws.{sid-16, windows-32, frames-16}
+use Rattle.segmentbytes.proofs.TypeLaws.{sid-16, windows-32}
 use Rattle.segmentbytes.proofs.FrameLaws.{frames-long}
 use Rattle.segmentbytes.proofs.SegmentLaws.{segment-stored}
 use Rattle.segmentbytes.proofs.segment_write.Statement.{statement}
@@ -43,7 +41,7 @@ returns c =
     let x = a .args .x in
     let g = a .good .1 .1 .0 in
     let few : length (shown (x .pages)) ≤ 32 = omega (arith, length-take (x .pages .len) (x .pages .windows), windows-32 x _ g) in
-    segment-stored (a .args .at) (segmentSays x) (a .args .s .now) _ _ _ (sid-16 x _ g) (set-long (shown (x .pages)) few) (frames-long (x .len) (x .frames) (frames-16 x _ g)) (omega arith)
+    segment-stored (a .args .at) (segmentSays x) (a .args .s .now) _ _ _ (sid-16 x _ g) (set-long (shown (x .pages)) few) (frames-long (x .len) (x .frames) (long-of x _ g)) (omega arith)
     (c .before .before .before .before .before .before .before .before .before .before .store-id .ensures) (c .before .before .before .before .before .before .set-write .ensures) (c .before .before .frames-write .ensures)
 
 pub segment-write-spec : {M : Type 1} → statement M

@@ -5,7 +5,8 @@ use Rattle.writecalls.specs.Written.{commitIn}
 use Rattle.rules.specs.Write.{checkpointsOf}
 use Rattle.rows.proofs.Tables.{checkpoints}
 use Rattle.rules.proofs.Write.{checkpoints-form}
-use Rattle.writecalls.proofs.Rows.{is-form, few, checkpoint-rows, rows-fit, rows-laid}
+use Rattle.rows.proofs.News.{rows-fit, rows-laid}
+use Rattle.writecalls.proofs.Rows.{is-form, few, checkpoint-rows}
 use borrow.Author.Needs.{needs}
 use Rattle.writecalls.proofs.put_checkpoints.Statement.{statement}
 use Rattle.writecalls.proofs.put_checkpoints.Tie as tie

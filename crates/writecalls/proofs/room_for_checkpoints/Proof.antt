@@ -4,7 +4,8 @@ use Rattle.writecalls.specs.Written.{commitIn}
 use Rattle.rules.specs.Write.{checkpointsOf}
 use Rattle.rows.proofs.Tables.{checkpoints}
 use Rattle.rules.proofs.Write.{checkpoints-form}
-use Rattle.writecalls.proofs.Rows.{is-form, few, checkpoint-rows, ready, rows-room}
+use Rattle.rows.proofs.News.{ready, rows-room}
+use Rattle.writecalls.proofs.Rows.{is-form, few, checkpoint-rows}
 use borrow.Author.Needs.{needs}
 use Rattle.writecalls.proofs.room_for_checkpoints.Statement.{statement}
 use Rattle.writecalls.proofs.room_for_checkpoints.Tie as tie

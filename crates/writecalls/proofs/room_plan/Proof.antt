@@ -2,7 +2,7 @@
 use mathlib.Core.Path.{sym, _∙_}
 use borrow.Author.Tests.{not-true, not-false}
 use Rattle.rows.proofs.Tables.{index}
-use Rattle.writecalls.proofs.Rows.{ready}
+use Rattle.rows.proofs.News.{ready}
 use Rattle.writecalls.proofs.Writes.{fresh-room, no-commit, no-checkpoints, entries-decide, plan-full, plan-room}
 use borrow.Author.Needs.{needs}
 use Rattle.writecalls.proofs.room_plan.Statement.{statement}

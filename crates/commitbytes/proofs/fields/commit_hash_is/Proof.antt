@@ -7,7 +7,7 @@ use lib.ListN.{length}
 use borrow.Author.Needs.{needs}
 use Rattle.octets.specs.Bytes.{part}
 use Rattle.octets.specs.Order.{lex, isEqual}
-use Rattle.octets.proofs.Places.{part-all}
+use Rattle.octets.proofs.Places.{part-whole}
 use Rattle.rules.specs.Records.{Hash}
 use Rattle.rules.specs.Push.{isHash}
 use Rattle.rules.proofs.Facts.{id-is}
@@ -16,7 +16,7 @@ use Rattle.commitbytes.proofs.fields.commit_hash_is.Statement.{statemen
 use Rattle.commitbytes.proofs.fields.commit_hash_is.Tie as tie
 
 whole : (a : tie.Start) → part 0 32 (a .args .t3) ≡ a .args .t3
-whole a = let l : length (a .args .t3) ≡ 32 = search needs in ap (λ (n : ℕ). part 0 n (a .args .t3)) (sym l) ∙ part-all (a .args .t3)
+whole a = let l : length (a .args .t3) ≡ 32 = search needs in part-whole 32 (a .args .t3) l
 
 add-load8 : tie.Need-add-load8
 add-load8 c = search needs

@@ -2,12 +2,11 @@
 use mathlib.Core.Path.{_≡_, sym, ap, _∙_}
 use Prim.Native.Nat.{ℕ, _+_}
 use mathlib.Core.List.{List}
-use mathlib.Core.Option.{Option}
 use lib.ListN.{length}
 use borrow.Author.Needs.{needs}
 use Rattle.octets.specs.Bytes.{part}
 use Rattle.octets.specs.Order.{lex, isEqual}
-use Rattle.octets.proofs.Places.{part-all}
+use Rattle.octets.proofs.Places.{part-whole}
 use Rattle.rules.specs.Records.{Segment}
 use Rattle.rules.specs.Save.{hasSid}
 use Rattle.rules.specs.Tables.{sameId}
@@ -18,7 +17,7 @@ use Rattle.commitbytes.proofs.fields.commit_sid_is.Statement.{statement
 use Rattle.commitbytes.proofs.fields.commit_sid_is.Tie as tie
 
 whole : (a : tie.Start) → part 0 16 (a .args .t3) ≡ a .args .t3
-whole a = let l : length (a .args .t3) ≡ 16 = search needs in ap (λ (n : ℕ). part 0 n (a .args .t3)) (sym l) ∙ part-all (a .args .t3)
+whole a = let l : length (a .args .t3) ≡ 16 = search needs in part-whole 16 (a .args .t3) l
 
 add-load8 : tie.Need-add-load8
 add-load8 c = search needs

@@ -1,16 +1,16 @@
 -- The array holds the LSNs passed, and zeros past them. The measure is what is left. Assumes nothing.
-use mathlib.Core.Path.{_≡_, refl, sym, ap, _∙_}
+use mathlib.Core.Path.{_≡_, ap, _∙_}
 use native.Mathlib.Omega.{arith}
 use borrow.Author.Needs.{needs}
 use Prim.Native.Nat.{ℕ, _+_, _-_, _*_, _≤_}
-use mathlib.Core.List.{List, _++_}
+use mathlib.Core.List.{_++_}
 use lib.ListN.{length, drop, set}
 use Rattle.octets.specs.Bytes.{be, part}
 use Rattle.octets.specs.Tab.{tab}
 use Rattle.octets.proofs.Tabs.{tab-none, tab-more}
 use Rattle.core.specs.declared.lsn.Lsn.{Lsn}
 use Rattle.commit.specs.Builders.{zeroLsns}
-use Rattle.commitbytes.specs.Laid.{lsnLaid}
+use Rattle.core.specs.Says.{lsnLaid}
 use Rattle.commitbytes.proofs.LsnLaws.{lsns-made}
 use Rattle.commitbytes.proofs.lsns.lsns_read.Statement.{statement}
 use Rattle.commitbytes.proofs.lsns.lsns_read.Tie as tie

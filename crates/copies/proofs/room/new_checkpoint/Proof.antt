@@ -1,6 +1,6 @@
 -- Named again in its list or by a later commit it does not count; else the table decides.
 use borrow.Author.Needs.{needs}
-use mathlib.Core.Path.{_≡_, sym, ap, _∙_}
+use mathlib.Core.Path.{sym, _∙_}
 use native.Mathlib.Omega.{arith}
 use Rattle.rules.specs.Walk.{pathCommits}
 use Rattle.layout.specs.Tables.{commitsIn, checkpointsIn}
@@ -29,8 +29,8 @@ returns-2 c =
     named-later ((c .before .before .before .before .before .before) .args .log) ((c .before .before .before .before .before .before) .args .lsn) (lsnsAt ((c .before .before .before .before .before .before) .args .m) ((c .before .before .before .before .before .before) .args .at) ((c .before .before .before .before .before .before) .args .commits .now)) (pathCommits (commitsIn ((c .before .before .before .before .before .before) .args .commits .now)) (leftSays ((c .before .before .before .before .before .before) .args .left))) (checkpointsIn ((c .before .before .before .before .before .before) .args .checkpoints .now) .rows)
     (sym (c .before .before .before .listed-at .ensures) ∙ c .before .before .if1 .left) (sym (c .before .listed-later .ensures) ∙ c .if2 .taken)
 
-checkpoint-key-requires : tie.Need-checkpoint-key-requires
-checkpoint-key-requires c κs = search needs
+log-key-requires : tie.Need-log-key-requires
+log-key-requires c κs = search needs
 
 slice-aggregate-lacking : tie.Need-slice-aggregate-lacking
 slice-aggregate-lacking c = search needs
@@ -40,7 +40,7 @@ lacking-requires c κs = ((omega arith, omega arith, search needs), formed-well 
 
 returns-3 : tie.Need-returns-3
 returns-3 c =
-    lacking-is ((c .before .before .before .before .before .before .before .before .before) .args .checkpoints .now) ((c .before .before .before .before .before .before .before .before .before) .pre .0 .1) ((c .before .before .before .before .before .before .before .before .before) .args .log) (search needs) ((c .before .before .before .before .before .before .before .before .before) .args .lsn) (search needs) _ (c .before .before .checkpoint-key .ensures) (c .lacking .result) (c .lacking .ensures .0)
+    lacking-is ((c .before .before .before .before .before .before .before .before .before) .args .checkpoints .now) ((c .before .before .before .before .before .before .before .before .before) .pre .0 .1) ((c .before .before .before .before .before .before .before .before .before) .args .log) (search needs) ((c .before .before .before .before .before .before .before .before .before) .args .lsn) (search needs) _ (c .before .before .log-key .ensures) (c .lacking .result) (c .lacking .ensures .0)
     ∙ table-decides ((c .before .before .before .before .before .before .before .before .before) .args .log) ((c .before .before .before .before .before .before .before .before .before) .args .lsn) (lsnsAt ((c .before .before .before .before .before .before .before .before .before) .args .m) ((c .before .before .before .before .before .before .before .before .before) .args .at) ((c .before .before .before .before .before .before .before .before .before) .args .commits .now)) (pathCommits (commitsIn ((c .before .before .before .before .before .before .before .before .before) .args .commits .now)) (leftSays ((c .before .before .before .before .before .before .before .before .before) .args .left))) (checkpointsIn ((c .before .before .before .before .before .before .before .before .before) .args .checkpoints .now) .rows)
     (sym (c .before .before .before .before .before .before .listed-at .ensures) ∙ c .before .before .before .before .before .if1 .left) (sym (c .before .before .before .before .listed-later .ensures) ∙ c .before .before .before .if2 .left)
 
@@ -52,7 +52,7 @@ new-checkpoint-spec =
     returns
     listed-later-requires
     returns-2
-    checkpoint-key-requires
+    log-key-requires
     slice-aggregate-lacking
     lacking-requires
     returns-3)

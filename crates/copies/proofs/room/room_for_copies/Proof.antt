@@ -1,9 +1,8 @@
 -- Room is asked table by table: the first that has none decides, and else the checkpoints do.
-use borrow.Author.Needs.{needs}
-use mathlib.Core.Path.{_≡_, sym, _∙_}
+use mathlib.Core.Path.{sym, _∙_}
 use borrow.Author.Tests.{not-true, not-false}
 use Rattle.rows.proofs.Tables.{commits, checkpoints, index}
-use Rattle.writecalls.proofs.Rows.{ready}
+use Rattle.rows.proofs.News.{ready}
 use Rattle.copies.proofs.Counting.{commits-room, index-room, checkpoints-room, no-commits, no-entries, checkpoints-decide}
 use Rattle.copies.proofs.room.room_for_copies.Statement.{statement}
 use Rattle.copies.proofs.room.room_for_copies.Tie as tie

@@ -2,7 +2,7 @@
 use borrow.Author.Needs.{needs}
 use mathlib.Core.Path.{ap, ap₂, _∙_}
 use Rattle.octets.specs.Order.{isEqual, lex}
-use Rattle.core.proofs.OrderLaws.{part-whole}
+use Rattle.octets.proofs.Places.{part-whole}
 use Rattle.core.proofs.commit_hash.same.Statement.{statement}
 use Rattle.core.proofs.commit_hash.same.Tie as tie
 
@@ -16,7 +16,7 @@ same-requires : tie.Need-same-requires
 same-requires c κs = search needs
 
 returns : tie.Need-returns
-returns c = c .same .ensures ∙ ap isEqual (ap₂ lex (part-whole _ 32 (search needs)) (part-whole _ 32 (search needs)))
+returns c = c .same .ensures ∙ ap isEqual (ap₂ lex (part-whole 32 _ (search needs)) (part-whole 32 _ (search needs)))
 
 pub same-spec : {M : Type 1} → statement M
 same-spec = tie.close (tie.spec slice-aggregate-same slice-aggregate-same-2 same-requires returns)

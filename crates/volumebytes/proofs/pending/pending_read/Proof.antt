@@ -7,7 +7,8 @@ use Prim.Native.Nat.{ℕ, _+_}
 use Rattle.layout.specs.Records.{pendingBytes}
 use Rattle.layout.proofs.PlaceLaws.{read-none, read-some}
 use Rattle.volume.specs.declared.volume.PendingCommit.the-variants as PendingCommit
-use Rattle.volumebytes.specs.Laid.{lsnLaid, pendingLaid}
+use Rattle.core.specs.Says.{lsnLaid}
+use Rattle.volumebytes.specs.Laid.{pendingLaid}
 use Rattle.volumebytes.proofs.ReadLaws.{pending-read}
 use Rattle.volumebytes.proofs.pending.pending_read.Statement.{statement}
 use Rattle.volumebytes.proofs.pending.pending_read.Tie as tie

@@ -8,7 +8,8 @@ use Rattle.layout.specs.Records.{syncBytes}
 use Rattle.layout.proofs.PlaceLaws.{read-none, read-some}
 use Rattle.volume.specs.declared.volume.MaybeLsn.{MaybeLsn}
 use Rattle.volume.specs.declared.volume.Sync.the-variants as Sync
-use Rattle.volumebytes.specs.Laid.{lsnLaid, syncLaid}
+use Rattle.core.specs.Says.{lsnLaid}
+use Rattle.volumebytes.specs.Laid.{syncLaid}
 use Rattle.volumebytes.proofs.ReadLaws.{sync-read}
 use Rattle.volumebytes.proofs.sync.sync_read.Statement.{statement}
 use Rattle.volumebytes.proofs.sync.sync_read.Tie as tie

@@ -3,9 +3,9 @@ use native.Mathlib.Omega.{arith}
 use mathlib.Core.Path.{_≡_}
 use lib.ListN.{length}
 use borrow.Author.Needs.{needs}
-use Rattle.commitbytes.proofs.PartLaws.{key-stored}
-use Rattle.commitbytes.proofs.parts.key_write.Statement.{statement}
-use Rattle.commitbytes.proofs.parts.key_write.Tie as tie
+use Rattle.layout.proofs.PlaceLaws.{key-stored}
+use Rattle.layout.proofs.key_write.Statement.{statement}
+use Rattle.layout.proofs.key_write.Tie as tie
 
 long : (a : tie.Start) → length (a .args .log) ≡ 16
 long a = search needs
@@ -33,8 +33,8 @@ same-length c = search needs
 
 returns : tie.Need-returns
 returns c =
-    let a = c .before .before .before .before .before .before .before .before .before .before .before .before .before .before in
-    key-stored (a .args .at) (a .args .lsn .0) (a .args .log) (a .args .s .now) _ _ _ (long a) (omega arith) (c .before .before .before .before .before .before .before .before .before .before .before .store8 .ensures) (c .before .before .before .before .before .before .before .store-id .ensures) (c .before .before .store64 .ensures)
+    let a = c .before .before .before .before .before .before .before .before .before .before .before .before .before in
+    key-stored (a .args .at) (a .args .lsn) (a .args .log) (a .args .s .now) _ _ _ (long a) (omega arith) (c .before .before .before .before .before .before .before .before .before .before .store8 .ensures) (c .before .before .before .before .before .before .store-id .ensures) (c .before .before .store64 .ensures)
 
 pub key-write-spec : {M : Type 1} → statement M
 key-write-spec =
