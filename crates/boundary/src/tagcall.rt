@@ -31,7 +31,7 @@ pub extern "C" fn sigatuda_tag_exists(tags: &[u8], name: &[u8]) -> Reply
     replies::yes_or_no(tag_exists(tags, name))
 }
 
-// A tag deleted; where there is none, nothing is: 20, 1.
+// A tag deleted; where there is none, nothing changes: 20, 1.
 #[no_mangle]
 pub extern "C" fn sigatuda_tag_delete(tags: &mut [u8], name: &[u8]) -> Reply
     ensures { λ r. ⌜ r ≡ numberedReply (code (lent (tagsOk (now (tags .entry))) (tagDelete (tagsIn (now (tags .entry))) (now (name .entry))))) ⌝ }

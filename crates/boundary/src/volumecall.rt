@@ -32,7 +32,7 @@ pub extern "C" fn sigatuda_volume_exists(volumes: &[u8], vid: &[u8; 16]) -> Repl
     replies::yes_or_no(volume_exists(volumes, *vid))
 }
 
-// A volume deleted; where there is none, nothing is: 20.
+// A volume deleted; where there is none, nothing changes: 20.
 #[no_mangle]
 pub extern "C" fn sigatuda_volume_delete(volumes: &mut [u8], vid: &[u8; 16]) -> Reply
     ensures { λ r. ⌜ r ≡ numberedReply (code (lent (volumesOk (now (volumes .entry))) (volumeDelete (volumesIn (now (volumes .entry))) (now (vid .entry))))) ⌝ }
@@ -41,7 +41,7 @@ pub extern "C" fn sigatuda_volume_delete(volumes: &mut [u8], vid: &[u8; 16]) -> 
     replies::numbered(volume_delete(volumes, *vid))
 }
 
-// A volume's pending commit dropped; where none is pending, nothing is: 20, 4.
+// A volume's pending commit dropped; where none is pending, nothing changes: 20, 4.
 #[no_mangle]
 pub extern "C" fn sigatuda_drop(volumes: &mut [u8], vid: &[u8; 16]) -> Reply
     ensures { λ r. ⌜ r ≡ numberedReply (code (lent (volumesOk (now (volumes .entry))) (dropPending (volumesIn (now (volumes .entry))) (now (vid .entry))))) ⌝ }
