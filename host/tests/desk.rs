@@ -339,6 +339,10 @@ fn numbers_explained() {
     }
     let (well, out, _) = folder.desk(["explain"]);
     assert_eq!((well, out.lines().count()), (true, 50));
+    // as docs/CALLS.md has it: without the pull a push would go over commits that were never taken in
+    let (_, out, _) = folder.desk(["explain", "12"]);
+    let places = ["Fetch", "pull;", "prepare", "refused (8)"].map(|word| out.find(word));
+    assert!(places.iter().all(Option::is_some) && places.is_sorted(), "fetch, pull, prepare, and 8: {out}");
     for wrong in ["25", "-1", "", "eight", "99999999999999999999"] {
         let (well, out, complaint) = folder.desk(["explain", wrong]);
         assert!(!well && out.is_empty() && complaint.contains("they go from 0 to 24"), "{complaint}");
