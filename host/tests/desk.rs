@@ -1,7 +1,7 @@
 //! `desk` on real files: what it says of tables in form and of damaged ones, of records, of where a volume stands and of its pages; and that no
 //! input stops it with a panic.
 mod few;
-#[allow(dead_code)]
+#[allow(dead_code)] // arguments of calls are judged in forms.rs and lent.rs; desk reads tables alone
 mod judge;
 
 use few::*;
