@@ -1,6 +1,7 @@
 //! A day of two testers and the results desk: readings are saved, sent and taken in; where both sides have moved, nothing is lost.
 //!
 //!     cargo run --offline --example day
+use Holder::{Desk, Own};
 use sigatuda::*;
 
 /// The log that the desk and every tester share.
@@ -58,21 +59,29 @@ impl Tester {
         self.books.lend().sync(self.vid)
     }
 
-    /// Prints what happened, and which commit holds each of the three pages that its reader sees.
-    fn tell(&mut self, what: &str) -> Result<(), Refusal> {
+    /// Prints what happened, and which commit holds each of the three pages that its reader sees; they are those that are said.
+    fn tell(&mut self, what: &str, said: [Holder; 3]) -> Result<(), Refusal> {
         println!("{what}");
         let t = self.books.lend();
         let snapshot = t.snapshot(self.vid)?;
-        for n in 1..=3 {
-            let holder = match t.search(&snapshot, PageIdx::new(n)?)? {
-                Some(c) if c.log == DESK => format!("the desk's commit {}", c.lsn.get()),
-                Some(c) => format!("its own commit {}", c.lsn.get()),
-                None => "no commit".to_string(),
-            };
-            println!("    page {n}: {holder}");
+        for (n, said) in (1..).zip(said) {
+            let commit = t.search(&snapshot, PageIdx::new(n)?)?.expect("each page is in a commit");
+            let holder = if commit.log == DESK { Desk(commit.lsn.get()) } else { Own(commit.lsn.get()) };
+            assert_eq!(holder, said, "page {n}: {what}");
+            match holder {
+                Own(lsn) => println!("    page {n}: its own commit {lsn}"),
+                Desk(lsn) => println!("    page {n}: the desk's commit {lsn}"),
+            }
         }
         Ok(())
     }
+}
+
+/// The commit that holds a page, by its LSN in the tester's own log or in the desk's.
+#[derive(Clone, Copy, Debug, PartialEq, Eq)]
+enum Holder {
+    Own(u64),
+    Desk(u64),
 }
 
 fn set(pages: &[u32]) -> Result<PageSet, Refusal> {
@@ -83,28 +92,32 @@ fn set(pages: &[u32]) -> Result<PageSet, Refusal> {
 pub fn main() -> Result<(), Refusal> {
     let mut one = Tester::open(1)?;
     one.save(0x51, &[1, 2, 3])?;
-    one.tell("Tester 1 saves three pages of readings.")?;
+    one.tell("Tester 1 saves three pages of readings.", [Own(1); 3])?;
     let sent = one.push()?;
-    one.tell("It sends them, and the desk has them as the first commit of its log.")?;
+    one.tell("It sends them, and the desk has them as the first commit of its log.", [Desk(1); 3])?;
 
     let segment = Segment { sid: SegmentId(id(0x52)), pages: set(&[2])?, frames: List::new() };
     let corrected = Commit { lsn: sent.lsn.next()?, hash: None, segment: Some(segment), ..sent };
     one.fetch(&corrected)?;
-    one.tell("The desk corrects page 2. Tester 1 has fetched that, and still reads what it read.")?;
+    one.tell("The desk corrects page 2. Tester 1 has fetched that, and still reads what it read.", [Desk(1); 3])?;
     one.pull()?;
-    one.tell("It holds nothing unsent, so it pulls, and the corrected list moves in.")?;
+    one.tell("It holds nothing unsent, so it pulls, and the corrected list moves in.", [Desk(1), Desk(2), Desk(1)])?;
 
     let mut two = Tester::open(2)?;
     two.fetch(&sent)?;
     two.pull()?;
     two.save(0x53, &[3])?;
-    two.tell("Tester 2 pulled before the correction, and has a new reading of page 3 that is not sent.")?;
+    two.tell("Tester 2 pulled before the correction, and has a new reading of page 3 that is not sent.", [Desk(1), Desk(1), Own(1)])?;
     two.fetch(&corrected)?;
     let before = two.books.clone();
     let refusal = two.pull().expect_err("both sides have moved");
+    assert_eq!(refusal, Refusal::Diverged);
     assert!(two.books == before, "a refused call changes no byte");
     assert_eq!(two.books.lend().commits.read(DESK, corrected.lsn)?, Some(corrected));
-    two.tell(&format!("The correction reaches it too. Both sides have moved, so a pull is refused ({refusal})."))?;
+    two.tell(
+        &format!("The correction reaches it too. Both sides have moved, so a pull is refused ({refusal})."),
+        [Desk(1), Desk(1), Own(1)],
+    )?;
     println!("Nothing is lost: its reading is there, and the desk's commit 2 waits in its tables.");
     Ok(())
 }

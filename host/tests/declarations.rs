@@ -94,14 +94,49 @@ fn the_same_functions() {
     }
 }
 
+/// A struct of a source: the attributes right before it, and its fields.
+fn structure(text: &str, head: &str) -> (Vec<String>, Vec<String>) {
+    let text = bare(text);
+    let (before, body) = text.split_once(&format!("{head} {{")).unwrap_or_else(|| panic!("there is no {head}"));
+    // attributes stand behind the end of the item before, or behind the file's first lines
+    let attributes = before.rsplit([';', '}']).next().unwrap();
+    let attributes = attributes.split("#[").skip(1).map(|a| a.trim().trim_end_matches(']').to_string()).collect();
+    (attributes, divided(body.split('}').next().unwrap()))
+}
+
+/// Whether a struct is laid out as C does.
+fn as_in_c(attributes: &[String]) -> bool {
+    attributes.iter().any(|attribute| attribute == "repr(C)")
+}
+
 #[test]
 fn the_same_reply() {
-    let fields = |text: &str| {
-        let text = bare(text);
-        let body = text.split("pub struct Reply {").nth(1).expect("a struct Reply").split('}').next().unwrap().to_string();
-        (text.contains("#[repr(C)]"), divided(&body))
-    };
-    assert_eq!(fields(include_str!("../../crates/arguments/src/lib.rt")), fields(include_str!("../src/raw.rs")));
+    let (rattle, fields) = structure(include_str!("../../crates/arguments/src/lib.rt"), "pub struct Reply");
+    let (rust, same) = structure(include_str!("../src/raw.rs"), "pub struct Reply");
+    assert!(as_in_c(&rattle) && as_in_c(&rust), "{rattle:?}, {rust:?}");
+    assert_eq!(fields, same);
+}
+
+/// A slice of Rattle is a pointer and a length, in this order.
+#[test]
+fn the_part_of_a_slice() {
+    let (attributes, fields) = structure(include_str!("../src/raw.rs"), "pub(crate) struct Part");
+    assert!(as_in_c(&attributes), "{attributes:?}");
+    assert_eq!(fields, ["pub ptr: *const u8", "pub len: usize"]);
+}
+
+#[test]
+fn attributes_of_one_struct_alone() {
+    let raw = include_str!("../src/raw.rs");
+    let places: Vec<_> = raw.match_indices("#[repr(C)]\n").map(|(at, _)| at).collect();
+    let heads = ["pub struct Reply", "pub(crate) struct Part"];
+    assert_eq!(places.len(), heads.len());
+    for (at, without) in places.iter().zip(heads) {
+        let text = [&raw[..*at], &raw[at + "#[repr(C)]\n".len()..]].concat();
+        for head in heads {
+            assert_eq!(as_in_c(&structure(&text, head).0), head != without, "{head}, where {without} has none");
+        }
+    }
 }
 
 #[test]

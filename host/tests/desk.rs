@@ -1,7 +1,7 @@
 //! `desk` on real files: what it says of tables in form and of damaged ones, of records, of where a volume stands and of its pages; and that no
 //! input stops it with a panic.
 mod few;
-#[allow(dead_code)]
+#[allow(dead_code)] // arguments of calls are judged in forms.rs and lent.rs; desk reads tables alone
 mod judge;
 
 use few::*;
@@ -339,6 +339,10 @@ fn numbers_explained() {
     }
     let (well, out, _) = folder.desk(["explain"]);
     assert_eq!((well, out.lines().count()), (true, 50));
+    // as docs/CALLS.md has it: without the pull a push would go over commits that were never taken in
+    let (_, out, _) = folder.desk(["explain", "12"]);
+    let places = ["Fetch", "pull;", "prepare", "refused (8)"].map(|word| out.find(word));
+    assert!(places.iter().all(Option::is_some) && places.is_sorted(), "fetch, pull, prepare, and 8: {out}");
     for wrong in ["25", "-1", "", "eight", "99999999999999999999"] {
         let (well, out, complaint) = folder.desk(["explain", wrong]);
         assert!(!well && out.is_empty() && complaint.contains("they go from 0 to 24"), "{complaint}");
@@ -350,9 +354,10 @@ fn odd_arguments() {
     let folder = Folder::new("odd");
     folder.put_books(&full_books());
     folder.put("a.commits", &[0, 0]);
+    folder.put("c.svg", full_books().commits.as_bytes());
     std::fs::create_dir_all(folder.0.join("index.d")).unwrap();
     let long = "0".repeat(33);
-    let complaints: [(&[&str], &str); 16] = [
+    let complaints: [(&[&str], &str); 17] = [
         (&[], "what is wanted?"),
         (&["chekc"], "there is no command chekc"),
         (&["check"], "which files"),
@@ -365,7 +370,8 @@ fn odd_arguments() {
         (&["show", "volumes", "--volume", "1"], "a table of commits"),
         (&["show", "volumes", "--svg", "x.svg"], "by --volume"),
         (&["show", "volumes", "commits", "--volume", "1", "--svg", "commits"], "ends in .svg"),
-        (&["show", "volumes", "commits=c.svg", "--volume", "1", "--svg", "c.svg"], "is not drawn over"),
+        (&["show", "volumes", "commits=c.svg", "--volume", "1", "--svg", "c.svg"], "it is not drawn over"),
+        (&["show", "volumes", "commits=c.svg", "--volume", "1", "--svg", "./c.svg"], "it is not drawn over"),
         (&["show", "volumes", "--vid", "1"], "there is no option --vid"),
         (&["show", "commits", "a.commits"], "two tables of commits"),
         (&["show", "volumes", "commits", "--volume", "1", "--svg", "no/such/folder.svg"], "cannot be written"),
@@ -379,7 +385,42 @@ fn odd_arguments() {
     assert!(!well && lines.len() == 6 && lines[0].starts_with("no.tags: it cannot be read") && lines[5].contains("ok"), "{out}");
     assert!(lines[1].contains("cannot be read") && lines[2].contains("which table is it?"), "{out}");
     assert!(folder.desk(["--help"]).0);
-    assert_eq!(std::fs::read(folder.0.join("commits")).unwrap(), full_books().commits.as_bytes(), "a table is never written");
+    for name in ["commits", "c.svg"] {
+        assert_eq!(std::fs::read(folder.0.join(name)).unwrap(), full_books().commits.as_bytes(), "a table is never written: {name}");
+    }
+}
+
+/// A drawing goes into a new file or over an earlier drawing, and over nothing else: no table by any of its names, and no other file.
+#[test]
+fn drawings_over_files() {
+    let folder = Folder::new("over");
+    folder.put_books(&full_books());
+    let draw = |over: &str| folder.desk(["show", "volumes", "commits", "--volume", "1", "--svg", over]);
+    let read = |name: &str| std::fs::read(folder.0.join(name)).unwrap();
+    assert!(draw("map.svg").0);
+    let drawing = read("map.svg");
+    folder.put("map.svg", &[&drawing[..], b"and what was left of a longer one"].concat());
+    assert!(draw("map.svg").0 && read("map.svg") == drawing, "an earlier drawing is drawn over, whole");
+    let commits = full_books().commits.as_bytes().to_vec();
+    let others: [(&str, &[u8]); 5] =
+        [("table.svg", &commits), ("empty.svg", b""), ("short.svg", b"<svg"), ("text.svg", b" <svg >"), ("capital.svg", b"<SVG >")];
+    for (name, bytes) in others {
+        folder.put(name, bytes);
+        let (well, out, complaint) = draw(name);
+        assert!(!well && out.is_empty() && complaint == format!("desk: {name}: it is there and is no drawing, so it is not drawn over\n"));
+        assert_eq!(read(name), bytes, "{name}");
+    }
+    std::fs::create_dir_all(folder.0.join("folder.svg")).unwrap();
+    assert!(draw("folder.svg").2.contains("it is not drawn over"));
+    std::fs::hard_link(folder.0.join("commits"), folder.0.join("hard.svg")).unwrap();
+    assert!(draw("hard.svg").2.contains("it is not drawn over") && read("commits") == commits);
+    #[cfg(unix)]
+    {
+        std::os::unix::fs::symlink("commits", folder.0.join("link.svg")).unwrap();
+        assert!(draw("link.svg").2.contains("it is not drawn over") && read("commits") == commits);
+        std::os::unix::fs::symlink("nowhere", folder.0.join("nowhere.svg")).unwrap();
+        assert!(draw("nowhere.svg").2.contains("it cannot be written") && !folder.0.join("nowhere").exists());
+    }
 }
 
 /// Any volumes and commits are shown, and drawn where they are tables: no panic.

@@ -1,8 +1,10 @@
 //! Every call over tables, on good, damaged, cut and random tables with good and damaged arguments: its number is document 01's, by the judge of byte
 //! forms (20 first, then what the arguments earn) or one that its row allows; a refused call leaves every lent byte as it was; a call that is
-//! done leaves tables in form. Calls use at most 8 KiB of stack, but for one.
+//! done leaves tables in form. Every number of a row comes in its rounds: half of those on good tables are drawn near to what the tables hold, so that none is
+//! left to chance. Calls use at most 8 KiB of stack, but for one.
 #[allow(dead_code)] // ranges of segments are judged in forms.rs
 mod judge;
+mod near;
 mod rows;
 mod stack;
 
@@ -37,14 +39,23 @@ fn hold(name: &str) {
             let good = rows::good(kind, &mut r);
             six[kind] = if bad == Some(kind) { rows::spoiled(kind, good, &mut r) } else { good };
         }
-        let (mut args, before) = (Args::new(&mut r), six.clone());
+        let (mut args, near) = (Args::new(&mut r), bad.is_none() && r.below(2) == 0);
+        if near {
+            near::turn_volumes(&mut six, &mut r);
+        }
         args.aim(&six, &mut r);
+        if near {
+            near::turn_arguments(&mut args, &six, &mut r);
+        }
+        let before = six.clone();
         let (mut out, mut reply) = (row.out(&mut r), Reply { code: 0, found: 0 });
         deepest = deepest.max(stack.run(|| reply = row.call(&mut six, &args, &mut out)));
         seen[reply.code as usize] += 1;
         Made { row, args: &args, formed: row.formed(&before), before: &before, after: &six, out: &out, reply }.check();
     }
-    assert!(seen[0] > 0 && seen[20] > 0, "numbers that came: {seen:?}");
+    for number in [&[0, 20], row.later].concat() {
+        assert!(seen[number as usize] > 0, "{number} did not come; numbers that came: {seen:?}");
+    }
     println!("{name}: deepest stack: {deepest} bytes; numbers that came: {seen:?}");
     assert!(deepest <= deepest_of(name), "{deepest} bytes of stack");
 }

@@ -184,6 +184,9 @@ impl Held {
     }
 }
 
+/// Measures a call on both sides, and prints its times.
+type Measure = fn(&Held);
+
 fn main() {
     let args: Vec<String> = std::env::args().skip(1).filter(|a| a != "--bench").collect();
     if let [write, folder] = &args[..]
@@ -191,7 +194,7 @@ fn main() {
     {
         return SIZES.map(Held::new).iter().for_each(|held| held.write_files(folder));
     }
-    let calls: [(&str, fn(&Held)); 7] = [
+    let calls: [(&str, Measure); 7] = [
         ("check", Held::form_checks),
         ("snapshot", Held::snapshot),
         ("search", Held::search),

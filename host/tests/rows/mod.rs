@@ -163,7 +163,7 @@ pub struct Row {
     pub lent: &'static [usize],
     place: Place,
     earns: fn(&Args) -> Vec<u32>,
-    later: &'static [u32],
+    pub later: &'static [u32],
     call: fn(&mut Six, &Args, &mut [u8], &mut u32) -> Reply,
 }
 

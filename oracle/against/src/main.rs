@@ -8,7 +8,7 @@ mod draw;
 mod earned;
 mod histories;
 #[path = "../../../host/tests/judge/mod.rs"]
-#[allow(dead_code)]
+#[allow(dead_code)] // values come from draw.rs; whole tables and ranges of segments are judged in the host's tests
 mod judge;
 mod pure;
 mod speed;

@@ -40,7 +40,8 @@ const ADVICE: [&str; 25] = [
     "A commit is being sent already. Let it end, or use recover, before the next one.",
     "There is no commit under way. Prepare one first; if one was, it has ended already.",
     "These readings were sent already. Nothing is to be done.",
-    "The desk's log has moved on, or is not fetched. Fetch its latest commits, then prepare with the LSN after the latest.",
+    "The desk's log has moved on, or is not fetched. Fetch its latest commits and pull; then prepare with the LSN after the latest. \
+     Where the pull is refused (8), decide by hand first.",
     "A commit that is sent needs a hash, and all zeros are none. Work out the hash and prepare again.",
     "The commit that came back is not the one that is being sent. Use recover, which looks at what the desk's log holds.",
     "The desk's log holds another commit at this place. Use recover: it drops the commit under way, and the readings stay unsent.",

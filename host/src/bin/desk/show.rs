@@ -6,7 +6,8 @@ use crate::place::first_fault;
 use crate::{Report, svg, words};
 use sigatuda::{Checkpoint, Commit, Commits, IndexEntry, LogId, Lsn, PresentPage, Record, Refusal, Table, Tag, Volume, VolumeId, changes};
 use std::ffi::OsString;
-use std::path::PathBuf;
+use std::io::{ErrorKind, Read, Seek, Write};
+use std::path::{Path, PathBuf};
 
 /// What is to be shown.
 #[derive(Default)]
@@ -31,7 +32,7 @@ impl Wanted {
         wanted.checked()
     }
 
-    /// What goes together: some files, at most one of a kind, and a drawing of a volume into none of them.
+    /// What goes together: some files, at most one of a kind, and a drawing of a volume alone.
     fn checked(self) -> Result<Wanted, String> {
         if self.files.is_empty() {
             return Err("which files are to be shown?".to_string());
@@ -40,12 +41,8 @@ impl Wanted {
         if let Some(kind) = Kind::ALL.iter().find(|kind| twice(kind)) {
             return Err(format!("there are two tables of {}: the tables of one tester are shown at a time", kind.shape().word));
         }
-        let Some(svg) = &self.svg else { return Ok(self) };
-        if self.volume.is_none() {
+        if self.svg.is_some() && self.volume.is_none() {
             return Err("--svg draws the pages of a volume: say which by --volume".to_string());
-        }
-        if self.files.iter().any(|file| file.path == *svg) {
-            return Err(format!("{} is a table, and is not drawn over", svg.display()));
         }
         Ok(self)
     }
@@ -86,7 +83,7 @@ pub fn show(args: &[OsString]) -> Result<Report, String> {
         match Map::of_volume(&mut volumes, &mut commits, vid) {
             Ok(map) => {
                 report.text += &map.text();
-                draw(&map, wanted.svg)?;
+                wanted.svg.map_or(Ok(()), |path| draw(&map, &path))?;
             }
             Err(refusal) => {
                 report.text += &format!("map vid={}: {}\n", words::hex(&vid.0), words::refused(refusal));
@@ -97,10 +94,27 @@ pub fn show(args: &[OsString]) -> Result<Report, String> {
     Ok(report)
 }
 
-/// Draws a map into a file, where one is named.
-fn draw(map: &Map, path: Option<PathBuf>) -> Result<(), String> {
-    let Some(path) = path else { return Ok(()) };
-    std::fs::write(&path, svg::drawn(map)).map_err(|e| format!("{}: it cannot be written: {e}", path.display()))
+/// Draws a map into a new file, or over an earlier drawing; any other file is left alone, by whatever name it is reached.
+fn draw(map: &Map, path: &Path) -> Result<(), String> {
+    let (drawing, said) = (svg::drawn(map), |e| format!("{}: it cannot be written: {e}", path.display()));
+    let mut file = match std::fs::File::create_new(path) {
+        Err(e) if e.kind() == ErrorKind::AlreadyExists => earlier_drawing(path)
+            .map_err(said)?
+            .ok_or_else(|| format!("{}: it is there and is no drawing, so it is not drawn over", path.display()))?,
+        new => new.map_err(said)?,
+    };
+    file.write_all(drawing.as_bytes()).and_then(|()| file.set_len(drawing.len() as u64)).map_err(said)
+}
+
+/// A file that begins as drawings do, to be written from its start. No table in form does: the byte after its count is a record's first, and that is 0.
+fn earlier_drawing(path: &Path) -> std::io::Result<Option<std::fs::File>> {
+    if !path.metadata()?.is_file() {
+        return Ok(None);
+    }
+    let (mut file, mut begins) = (std::fs::File::options().read(true).write(true).open(path)?, Vec::new());
+    (&file).take(svg::BEGINS.len() as u64).read_to_end(&mut begins)?;
+    file.rewind()?;
+    Ok((begins == svg::BEGINS.as_bytes()).then_some(file))
 }
 
 fn bytes_of(kind: Kind, tables: &[(&File, Vec<u8>)]) -> Option<Vec<u8>> {

@@ -9,6 +9,9 @@ const LINE: usize = 20;
 /// Colours that stay apart for most eyes; with more commits they come round again, and the sign tells.
 const COLOURS: [&str; 8] = ["#e69f00", "#56b4e9", "#009e73", "#f0e442", "#0072b2", "#d55e00", "#cc79a7", "#999999"];
 
+/// How every drawing begins.
+pub const BEGINS: &str = "<svg ";
+
 /// A drawing that grows downwards.
 struct Drawing {
     body: String,
@@ -49,7 +52,7 @@ pub fn drawn(map: &Map) -> String {
     }
     let (width, height) = (LEFT + ACROSS as usize * CELL + 10, drawing.y + 10);
     format!(
-        "<svg xmlns=\"http://www.w3.org/2000/svg\" width=\"{width}\" height=\"{height}\" viewBox=\"0 0 {width} {height}\" \
+        "{BEGINS}xmlns=\"http://www.w3.org/2000/svg\" width=\"{width}\" height=\"{height}\" viewBox=\"0 0 {width} {height}\" \
          font-family=\"monospace\" font-size=\"11\">\n<rect width=\"{width}\" height=\"{height}\" fill=\"#ffffff\"/>\n{}</svg>\n",
         drawing.body
     )
