@@ -10,9 +10,9 @@ use mir.Val.{Val}
 use denote.Laws.{Is}
 use denote.Struct.Declared.{row}
 use native.Mathlib.Numerals.{add-one}
-use lib.ListN.{length, take, drop, getD, set, length-take, length-drop, length-map, length-set, drop-of-length-le, length-append}
+use lib.ListN.{length, take, drop, getD, set, length-take, length-drop, length-map, length-set, drop-of-length-le, length-append, take-append-drop}
 use lib.Dec.{leb}
-use lib.Seq.{getD-take, drop-cons, getD-set-same, take-set-lt, drop-set-lt, drop-drop, take-suc, take-suc-set}
+use lib.Seq.{getD-take, drop-cons, getD-set-same, take-set-lt, drop-set-lt, drop-drop, take-suc, take-suc-set, take-at}
 use borrow.Author.Tests.{leb-true, leb-false, ltb-true}
 use Rattle.core.specs.Numbers.{counts, lastLsn}
 use Rattle.rules.specs.Forms.{lsnForm, commitForm}
@@ -22,7 +22,7 @@ use Rattle.rules.specs.Records.{Id, Commit, Range, commitKey}
 use Rattle.rules.specs.Tables.{Table, fits, inOrder, sameId}
 use Rattle.core.proofs.OrderLaws.{logLsn-lawful}
 use Rattle.rules.specs.Walk.{inRange, pathCommits}
-use Rattle.rules.proofs.TableLaws.{cases, clash, missing, options, and-fst, and-snd, first-some, those-append, map-append, length-those, formed-parts}
+use Rattle.rules.proofs.TableLaws.{cases, clash, missing, options, and-fst, and-snd, first-some, those-append, length-those, formed-parts}
 use Rattle.table.specs.Table.{countOf}
 use Rattle.layout.specs.Tables.{commitsIn, commitsOk}
 use Rattle.rows.specs.Lookups.{stretch}
@@ -37,7 +37,7 @@ use Rattle.commits.specs.declared.Place.{Place}
 use Rattle.commits.specs.declared.Place.the-variants as Place
 use Rattle.paths.specs.declared.Left.{Left}
 use Rattle.paths.proofs.Left.{the-type}
-use Rattle.paths.specs.Left.{lowered, otherLog, leading, isLeft, leftSays, loweredAt, Meets}
+use Rattle.paths.specs.Left.{lowered, otherLog, leading, isLeft, leftSays, others, leftWithout, loweredAt, Meets}
 use Rattle.paths.proofs.PathLaws.{those-next}
 
 -- what is left has places for 8 ranges: of a parameter, by `.good .1 .0`
@@ -249,33 +249,60 @@ left-small t ok l k =
 
 -- ---- the ranges that do not name a log
 
-module _ (log : Id) (path kept : List LogRange) (i n : ℕ) (d : LogRange) (h : i < length path)
-    (e : map rangeSays (take n kept) ≡ those (otherLog log) (map rangeSays (take i path))) where
-  one-more : those (otherLog log) (map rangeSays (take (i + 1) path)) ≡ those (otherLog log) (map rangeSays (take i path)) ++ those (otherLog log) (rangeSays (getD path i d) ∷ [])
+module _ (log : Id) (path kept : List LogRange) (i n : ℕ) (d : LogRange) (h : i < length path) (e : take n kept ≡ others log (take i path)) where
+  one-more : others log (take (i + 1) path) ≡ others log (take i path) ++ others log (getD path i d ∷ [])
   one-more =
-      ap (λ (l : List LogRange). those (otherLog log) (map rangeSays l)) (ap (λ (m : ℕ). take m path) (add-one i) ∙ take-suc path i d h)
-      ∙ ap (those (otherLog log)) (map-append rangeSays (take i path) (getD path i d ∷ []))
-      ∙ those-append (otherLog log) (map rangeSays (take i path)) (rangeSays (getD path i d) ∷ [])
+      ap (others log) (ap (λ (m : ℕ). take m path) (add-one i) ∙ take-suc path i d h)
+      ∙ those-append (λ (r : LogRange). otherLog log (rangeSays r)) (take i path) (getD path i d ∷ [])
 
   -- the next names another: it is kept
-  pub other-kept : n < length kept → sameId log (getD path i d .log) ≡ false
-      → map rangeSays (take (n + 1) (set kept n (getD path i d))) ≡ those (otherLog log) (map rangeSays (take (i + 1) path))
+  pub other-kept : n < length kept → sameId log (getD path i d .log) ≡ false → take (n + 1) (set kept n (getD path i d)) ≡ others log (take (i + 1) path)
   unfolding those
   other-kept k q =
-      ap (map rangeSays) (ap (λ (m : ℕ). take m (set kept n (getD path i d))) (add-one n) ∙ take-suc-set kept n (getD path i d) k)
-      ∙ map-append rangeSays (take n kept) (getD path i d ∷ [])
-      ∙ ap (λ (l : List Range). l ++ rangeSays (getD path i d) ∷ []) e
-      ∙ ap (λ (b : Bool). those (otherLog log) (map rangeSays (take i path)) ++ cond (not b) (rangeSays (getD path i d) ∷ []) []) (sym q)
+      ap (λ (m : ℕ). take m (set kept n (getD path i d))) (add-one n) ∙ take-suc-set kept n (getD path i d) k
+      ∙ ap (λ (l : List LogRange). l ++ getD path i d ∷ []) e
+      ∙ ap (λ (b : Bool). others log (take i path) ++ cond (not b) (getD path i d ∷ []) []) (sym q)
       ∙ sym one-more
 
   -- the next names it: it is left out
-  pub own-left : sameId log (getD path i d .log) ≡ true → map rangeSays (take n kept) ≡ those (otherLog log) (map rangeSays (take (i + 1) path))
+  pub own-left : sameId log (getD path i d .log) ≡ true → take n kept ≡ others log (take (i + 1) path)
   unfolding those
   own-left q =
-      e ∙ sym (append-nil (those (otherLog log) (map rangeSays (take i path))))
-      ∙ ap (λ (b : Bool). those (otherLog log) (map rangeSays (take i path)) ++ cond (not b) (rangeSays (getD path i d) ∷ []) []) (sym q)
+      e ∙ sym (append-nil (others log (take i path)))
+      ∙ ap (λ (b : Bool). others log (take i path) ++ cond (not b) (getD path i d ∷ []) []) (sym q)
       ∙ sym one-more
 
-pub none-kept : (log : Id) (path : List LogRange) → map rangeSays (take 0 path) ≡ those (otherLog log) (map rangeSays (take 0 path))
+-- the places behind a range that is kept are as they were
+pub rest-stays : (path kept : List LogRange) (n : ℕ) (r : LogRange) → drop n kept ≡ drop n path → drop (n + 1) (set kept n r) ≡ drop (n + 1) path
+rest-stays path kept n r e = drop-set-lt (n + 1) kept n r (omega arith) ∙ sym (drop-drop 1 n kept) ∙ ap (drop 1) e ∙ drop-drop 1 n path
+
+pub none-kept : (log : Id) (path : List LogRange) → take 0 path ≡ others log (take 0 path)
 unfolding those
 none-kept log path = refl
+
+-- at the end
+pub all-kept : (log : Id) (path kept : List LogRange) (n len : ℕ) → n ≤ length kept → take n kept ≡ others log (take len path) → drop n kept ≡ drop n path
+    → record { path = kept; at = 0; len = n } ≡ leftWithout path len log
+unfolding leftWithout
+all-kept log path kept n len h e b =
+    let l : n ≡ length (others log (take len path)) = sym (length-take n kept ∙ omega arith) ∙ ap (length {A = LogRange}) e in
+    let k : kept ≡ others log (take len path) ++ drop (length (others log (take len path))) path = sym (take-append-drop n kept) ∙ ap₂ (λ (x y : List LogRange). x ++ y) e (b ∙ ap (λ (m : ℕ). drop m path) l) in
+    ap₂ (λ (p : List LogRange) (m : ℕ). record { path = p; at = 0; len = m }) k l
+
+-- what is left so is a path, of the ranges that do not name the log
+says-others : (log : Id) (path : List LogRange) → map rangeSays (others log path) ≡ those (otherLog log) (map rangeSays path)
+unfolding those
+says-others log [] = refl
+says-others log (r ∷ rs) = cases (sameId log (r .log)) (λ q. rw q (says-others log rs)) (λ q. rw q (ap (λ (l : List Range). rangeSays r ∷ l) (says-others log rs)))
+
+pub without-left : (path : List LogRange) (len : ℕ) (log : Id) (r : Left) → len ≤ 8 → r ≡ leftWithout path len log → isLeft r
+unfolding leftWithout
+without-left path len log r h e =
+    rw e (omega arith, omega (arith, length-those (λ (x : LogRange). otherLog log (rangeSays x)) (take len path), length-take len path))
+
+pub without-says : (path : List LogRange) (len : ℕ) (log : Id) (r : Left) → r ≡ leftWithout path len log → leftSays r ≡ those (otherLog log) (map rangeSays (take len path))
+unfolding leftWithout
+without-says path len log r e =
+    ap leftSays e
+    ∙ ap (map rangeSays) (take-at (others log (take len path)) (drop (length (others log (take len path))) path) (length (others log (take len path))) refl)
+    ∙ says-others log (take len path)

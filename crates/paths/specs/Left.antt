@@ -1,9 +1,9 @@
 -- What is left of a path while its commits are gone through: a path again, whose first range ends below the commit that was met.
 use Prim.Native.Nat.{ℕ, suc, _+_, _-_, _≤_, _<_}
 use mathlib.Core.Path.{_≡_}
-use mathlib.Core.List.{List, [], _∷_, map}
+use mathlib.Core.List.{List, [], _∷_, _++_, map}
 use mathlib.Core.Bool.{Bool, true, cond, not}
-use lib.ListN.{take, drop, getD, set}
+use lib.ListN.{length, take, drop, getD, set}
 use Rattle.rules.specs.Lists.{first, those, all, isNone}
 use Rattle.rules.specs.Records.{Id, Commit, Range}
 use Rattle.rules.specs.Tables.{Table, sameId}
@@ -37,6 +37,14 @@ isLeft l = (l .at ≤ l .len) × (l .len ≤ 8)
 -- the ranges left
 abbrev pub leftSays : Left → List Range
 leftSays l = map rangeSays (drop (l .at) (take (l .len) (l .path)))
+
+-- the ranges that do not name the log, in code
+abbrev pub others : Id → List LogRange → List LogRange
+others log path = those (λ (r : LogRange). otherLog log (rangeSays r)) path
+
+-- of the first ranges of a path those that do not name the log, moved to its front; each place behind them is as it was
+unfoldable pub leftWithout : List LogRange → ℕ → Id → Left
+leftWithout path len log = record { path = others log (take len path) ++ drop (length (others log (take len path))) path; at = 0; len = length (others log (take len path)) }
 
 -- a path whose range r at a place is lowered below an LSN
 abbrev pub loweredAt : LogRange → ℕ → ℕ → List LogRange → List LogRange

@@ -9,15 +9,14 @@ use core::lsn::Lsn;
 use volume::snapshot::LogRange;
 ghost use mathlib.Core.Path.{_≡_};
 ghost use mathlib.Core.Bool.{true};
-ghost use mathlib.Core.List.{map};
 ghost use Prim.Native.Nat.{_+_, _-_, _≤_, _<_};
-ghost use lib.ListN.{length, take, drop};
-ghost use Rattle.rules.specs.Lists.{first, those};
+ghost use lib.ListN.{length};
+ghost use Rattle.rules.specs.Lists.{first};
 ghost use Rattle.rules.specs.Walk.{inRange, pathCommits};
 ghost use Rattle.volume.specs.Snapshots.{rangeSays};
 ghost use Rattle.layout.specs.Tables.{commitsIn, commitsOk};
 ghost use Rattle.commits.specs.Places.{PlaceOf};
-ghost use Rattle.paths.specs.Left.{otherLog, leading, isLeft, leftSays, Meets};
+ghost use Rattle.paths.specs.Left.{leading, isLeft, leftSays, leftWithout, Meets};
 
 // What is left of a path: its ranges from `at` up to `len`.
 pub struct Left {
@@ -115,10 +114,10 @@ pub fn commits_left(commits: &[u8], left: Left) -> usize
     n
 }
 
-// The ranges of a path that do not name a log.
+// The ranges of a path that do not name a log, moved to its front.
 pub fn without(path: [LogRange; 8], len: usize, log: LogId) -> Left
     requires { ⌜ len ≤ 8 ⌝ }
-    ensures { λ r. ⌜ isLeft r × (leftSays r ≡ those (otherLog log) (map rangeSays (take len path))) ⌝ }
+    ensures { λ r. ⌜ r ≡ leftWithout path len log ⌝ }
 {
     let mut kept = path;
     let mut n: usize = 0;
