@@ -1,4 +1,4 @@
--- All of the piece where there is room, else as much as there is.
+-- All of the piece where there is room for it, else as much of it as there is room: both are the piece cut to the room.
 use Prim.Native.Nat.{_-_}
 use mathlib.Core.Path.{_≡_, refl, sym, ap, _∙_}
 use native.Mathlib.Omega.{arith}
@@ -26,7 +26,7 @@ same-length : tie.Need-same-length
 same-length c = search needs
 
 returns : tie.Need-returns
-returns c = let a = (c .before .before .before .before .before .before .before .before) .args in (kept-some (a .n) (257 - a .n - 0) (a .piece .now) (a .kept .now) _ (omega arith) ((c .before .before .before .before .before .before .before .before) .pre .1) ((c .before .before .before .before .before .before .before .before) .pre .0) (omega (arith, c .before .before .before .before .before .if1 .taken)) (c .before .before .store-all .ensures), omega arith)
+returns c = let a = (c .before .before .before .before .before .before .before .before) .args in (kept-some (a .n) (257 - a .n - 0) (a .piece .now) (a .kept .now) _ (omega arith) (c .before .before .store-all .ensures), omega (arith, c .before .before .before .before .before .if1 .taken))
 
 store-all-requires-2 : tie.Need-store-all-requires-2
 store-all-requires-2 c κs = search needs
@@ -38,7 +38,7 @@ same-length-2 : tie.Need-same-length-2
 same-length-2 c = search needs
 
 returns-2 : tie.Need-returns-2
-returns-2 c = let a = (c .before .before .before .before .before .before .before) .args in (kept-all (a .n) (a .piece .now) (a .kept .now) _ ((c .before .before .before .before .before .before .before) .pre .1) (omega (arith, c .before .before .before .before .if1 .left)) (c .before .before .store-all2 .ensures), omega (arith, c .before .before .before .before .if1 .left))
+returns-2 c = let a = (c .before .before .before .before .before .before .before) .args in (kept-all (a .n) (a .piece .now) (a .kept .now) _ (omega (arith, c .before .before .before .before .if1 .left)) (c .before .before .store-all2 .ensures), omega (arith, c .before .before .before .before .if1 .left))
 
 pub keep-spec : {M : Type 1} → statement M
 keep-spec =
