@@ -127,13 +127,13 @@ small-next i ms x s h was j g = go (ℕ-discrete j i)
 
 -- i windows are sorted, and noted
 pub record Sorting (ws : Pages) (count : ℕ) (tags₀ masks₀ marks₀ tags masks marks left ask : List ℕ) (i : ℕ) : Type 0 where
-  pub lengths : (length tags ≡ 128) × (length masks ≡ 128) × (length marks ≡ 64)
+  pub lengths : (length tags ≡ 64) × (length masks ≡ 64) × (length marks ≡ 64)
   pub places : (length left ≡ 32) × (length ask ≡ 32)
   pub sorted : (held : ℕ → Bool) → Known held tags₀ masks₀ marks₀ → ((j : ℕ) → j < i → SortedAt held count ws left ask j) × Known (λ p. held p || holds (take i ws) p) tags masks marks
   pub small : ((j : ℕ) → j < i → getD left j 0 < 2 ^ 64) × ((j : ℕ) → j < i → getD ask j 0 < 2 ^ 64)
 
 module _ (ws : Pages) (count : ℕ) (tags₀ masks₀ marks₀ : List ℕ) where
-  pub sorting-start : (left ask : List ℕ) → (length tags₀ ≡ 128) × (length masks₀ ≡ 128) × (length marks₀ ≡ 64) → (length left ≡ 32) × (length ask ≡ 32)
+  pub sorting-start : (left ask : List ℕ) → (length tags₀ ≡ 64) × (length masks₀ ≡ 64) × (length marks₀ ≡ 64) → (length left ≡ 32) × (length ask ≡ 32)
       → Sorting ws count tags₀ masks₀ marks₀ tags₀ masks₀ marks₀ left ask 0
   sorting-start left ask l m = record {
     lengths = l;
@@ -151,7 +151,7 @@ module _ (ws : Pages) (count : ℕ) (tags₀ masks₀ marks₀ : List ℕ) where
 
     -- the next window: its index x, its mask y, its pages v up to the count, and what the notes tell of it
     module _ (up : rising 0 ws ≡ true) (h : i < length ws) (few : length ws ≤ 32) (x y v : ℕ) (e : record { index = x; mask = y } ≡ getD ws i zeroWindow) (q : v ≡ upTo count x y) (vs : v < 2 ^ 64)
-        (tags' masks' marks' : List ℕ) (l : (length tags' ≡ 128) × (length masks' ≡ 128) × (length marks' ≡ 64)) (r : Told) (noted : AsNoted x y tags masks marks tags' masks' marks' r) where
+        (tags' masks' marks' : List ℕ) (l : (length tags' ≡ 64) × (length masks' ≡ 64) × (length marks' ≡ 64)) (r : Told) (noted : AsNoted x y tags masks marks tags' masks' marks' r) where
       abbrev here : Window
       here = getD ws i zeroWindow
 

@@ -124,7 +124,7 @@ fn sort_out(
     ask: &mut [u64],
 )
     requires { ⌜ (at + n * 12 ≤ length (now commits)) × (n ≤ 32) × (normalForm (windowsAt n at (now commits)) ≡ true) × (length (now left) ≡ 32) × (length (now ask) ≡ 32) ⌝ }
-    requires { ⌜ (length (now tags) ≡ 128) × (length (now masks) ≡ 128) × (length (now marks) ≡ 64) ⌝ }
+    requires { ⌜ (length (now tags) ≡ 64) × (length (now masks) ≡ 64) × (length (now marks) ≡ 64) ⌝ }
     ensures { λ _. ⌜ AsSorted (windowsAt n at (now (commits .entry))) (count .0) (now (tags .entry)) (now (masks .entry)) (now (marks .entry)) (now (tags .exit)) (now (masks .exit)) (now (marks .exit)) (now (left .exit)) (now (ask .exit)) ⌝ }
     ensures { λ _. ⌜ (Small (windowsAt n at (now (commits .entry))) (now (left .exit))) × Small (windowsAt n at (now (commits .entry))) (now (ask .exit)) ⌝ }
 {

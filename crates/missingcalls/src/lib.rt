@@ -112,8 +112,8 @@ fn next_item(commits: &[u8], presence: &[u8], path: Path, count: PageCount, from
     requires { ⌜ (commitsOk (now commits) ≡ true) × (presenceOk (now presence) ≡ true) × Inside (now commits) (placesIn (path .runs)) ⌝ }
     ensures { λ r. ⌜ NextMissing (now (commits .entry)) (presenceIn (now (presence .entry))) (count .0) (placesIn (path .runs)) (missingOf (presenceIn (now (presence .entry))) (itemsFrom (now (commits .entry)) (count .0) (placesIn (path .runs)) from)) r ⌝ }
 {
-    let mut tags = [4294967295u32; 128];
-    let mut masks = [0u64; 128];
+    let mut tags = [4294967295u32; 64];
+    let mut masks = [0u64; 64];
     let mut marks = [18446744073709551615u64; 64];
     let mut next = from;
     loop {
@@ -257,8 +257,8 @@ fn count_missing(commits: &[u8], presence: &[u8], path: Path, count: PageCount) 
     ensures { λ r. ⌜ r ≡ length (missingOf (presenceIn (now (presence .entry))) (itemsFrom (now (commits .entry)) (count .0) (placesIn (path .runs)) 0)) ⌝ }
 {
     let mut none = [0u8; 1];
-    let mut tags = [0u32; 128];
-    let mut masks = [0u64; 128];
+    let mut tags = [0u32; 64];
+    let mut masks = [0u64; 64];
     let mut marks = [0u64; 64];
     let mut k: usize = 0;
     let mut n: usize = 0;
@@ -286,8 +286,8 @@ fn put_missing(
     ensures { λ r. ⌜ (r ≡ length (missingOf (presenceIn (now (presence .entry))) (itemsFrom (now (commits .entry)) (count .0) (placesIn (path .runs)) 0))) × (r < 4294967296) ⌝ }
     ensures { λ _. ⌜ now (list .exit) ≡ put 0 (flat (partBytes .spell) (missingOf (presenceIn (now (presence .entry))) (itemsFrom (now (commits .entry)) (count .0) (placesIn (path .runs)) 0))) (now (list .entry)) ⌝ }
 {
-    let mut tags = [0u32; 128];
-    let mut masks = [0u64; 128];
+    let mut tags = [0u32; 64];
+    let mut masks = [0u64; 64];
     let mut marks = [0u64; 64];
     let mut k: usize = 0;
     let mut n: usize = 0;

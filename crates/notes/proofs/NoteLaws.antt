@@ -1,4 +1,4 @@
--- The notes after one more window is met. A page of another window is held as before, one of this window if it was or if the new mask has it. Places of other numbers modulo 128 have other
+-- The notes after one more window is met. A page of another window is held as before, one of this window if it was or if the new mask has it. Places of other numbers modulo 64 have other
 -- windows, so only the window's own place can need a change; marks are only added, so a window without one was without one before, and is not the window met.
 use Prim.Native.Nat.{ℕ, zero, suc, _+_, _*_, _/_, _%_, _^_, _<_, _≤_}
 use mathlib.Core.Path.{_≡_, refl, sym, ap, ap₂, _∙_, subst}
@@ -44,7 +44,7 @@ module _ (held : ℕ → Bool) (q mask : ℕ) where
 
   module _ (tags masks marks : List ℕ) (k : Known held tags masks marks) where
     abbrev at : ℕ
-    at = q % 128
+    at = q % 64
 
     abbrev word : ℕ
     word = q / 64 % 64
@@ -78,16 +78,16 @@ module _ (held : ℕ → Bool) (q mask : ℕ) where
     free' p e b l = k .free p (kept-mark p e) b l ∙ sym (other-page p b l (λ z. clash (marked marks' q) own-mark (ap (λ (x : ℕ). marked marks' x) (sym z) ∙ e)))
 
     -- a place of another number has another window
-    elsewhere : (s : ℕ) → s < 128 → (s ≡ at → ⊥) → Of (andHeld held q mask) (getD tags s 0 * 128 + s) (getD masks s 0)
-    elsewhere s l n b h = k .exact s l b h ∙ sym (other-page (getD tags s 0 * 128 + s) b h (λ z. n (omega arith)))
+    elsewhere : (s : ℕ) → s < 64 → (s ≡ at → ⊥) → Of (andHeld held q mask) (getD tags s 0 * 64 + s) (getD masks s 0)
+    elsewhere s l n b h = k .exact s l b h ∙ sym (other-page (getD tags s 0 * 64 + s) b h (λ z. n (omega arith)))
 
     words' : length marks' ≡ 64
     words' = length-set marks word (bitOr (getD marks word 0) (1 * 2 ^ (q % 64) % 18446744073709551616)) ∙ k .words
 
     -- ---- the window is in its place
 
-    module _ (e : getD tags at 0 ≡ q / 128) where
-      here : getD tags at 0 * 128 + at ≡ q
+    module _ (e : getD tags at 0 ≡ q / 64) where
+      here : getD tags at 0 * 64 + at ≡ q
       here = omega arith
 
       pub told-here : Tells held q (record { known = true; mask = getD masks at 0 })
@@ -102,7 +102,7 @@ module _ (held : ℕ → Bool) (q mask : ℕ) where
         free = free';
       }
         where
-          own : Of (andHeld held q mask) (getD tags at 0 * 128 + at) (getD (set masks at (bitOr (getD masks at 0) mask)) at 0)
+          own : Of (andHeld held q mask) (getD tags at 0 * 64 + at) (getD (set masks at (bitOr (getD masks at 0) mask)) at 0)
           own b l =
               ap (λ (m : ℕ). bit m b) (getD-set-same masks at (bitOr (getD masks at 0) mask) 0 (omega (arith, k .pages)))
               ∙ bit-or (getD masks at 0) mask b
@@ -110,20 +110,20 @@ module _ (held : ℕ → Bool) (q mask : ℕ) where
               ∙ sym (own-page b l)
               ∙ ap (λ (x : ℕ). andHeld held q mask (x * 64 + b)) (sym here)
 
-          go : (s : ℕ) → s < 128 → Dec (s ≡ at) → Of (andHeld held q mask) (getD tags s 0 * 128 + s) (getD (set masks at (bitOr (getD masks at 0) mask)) s 0)
-          go s l (yes z) = subst (λ (x : ℕ). Of (andHeld held q mask) (getD tags x 0 * 128 + x) (getD (set masks at (bitOr (getD masks at 0) mask)) x 0)) (sym z) own
+          go : (s : ℕ) → s < 64 → Dec (s ≡ at) → Of (andHeld held q mask) (getD tags s 0 * 64 + s) (getD (set masks at (bitOr (getD masks at 0) mask)) s 0)
+          go s l (yes z) = subst (λ (x : ℕ). Of (andHeld held q mask) (getD tags x 0 * 64 + x) (getD (set masks at (bitOr (getD masks at 0) mask)) x 0)) (sym z) own
           go s l (no n) = λ b h. ap (λ (m : ℕ). bit m b) (getD-set-other masks at s (bitOr (getD masks at 0) mask) 0 n) ∙ elsewhere s l n b h
 
     -- ---- another window is in its place
 
-    module _ (n : getD tags at 0 ≡ q / 128 → ⊥) where
+    module _ (n : getD tags at 0 ≡ q / 64 → ⊥) where
       pub noted-nowhere : Known (andHeld held q mask) tags masks marks'
       noted-nowhere = record { places = k .places; pages = k .pages; words = words'; exact = λ s l. go s l (ℕ-discrete s at); free = free' }
         where
-          go : (s : ℕ) → s < 128 → Dec (s ≡ at) → Of (andHeld held q mask) (getD tags s 0 * 128 + s) (getD masks s 0)
-          go s l (yes z) b h = k .exact s l b h ∙ sym (other-page (getD tags s 0 * 128 + s) b h (λ y. n (ap (λ (x : ℕ). getD tags x 0) (sym z) ∙ whole (getD tags s 0) s l y)))
+          go : (s : ℕ) → s < 64 → Dec (s ≡ at) → Of (andHeld held q mask) (getD tags s 0 * 64 + s) (getD masks s 0)
+          go s l (yes z) b h = k .exact s l b h ∙ sym (other-page (getD tags s 0 * 64 + s) b h (λ y. n (ap (λ (x : ℕ). getD tags x 0) (sym z) ∙ whole (getD tags s 0) s l y)))
             where
-              whole : (t s : ℕ) → s < 128 → t * 128 + s ≡ q → t ≡ q / 128
+              whole : (t s : ℕ) → s < 64 → t * 64 + s ≡ q → t ≡ q / 64
               whole t s l y = omega arith
           go s l (no m) b h = elsewhere s l m b h
 
@@ -133,31 +133,31 @@ module _ (held : ℕ → Bool) (q mask : ℕ) where
       pub told-free : Tells held q (record { known = true; mask = 0 })
       told-free z = k .free q e
 
-      pub noted-free : Known (andHeld held q mask) (set tags at (q / 128)) (set masks at mask) marks'
+      pub noted-free : Known (andHeld held q mask) (set tags at (q / 64)) (set masks at mask) marks'
       noted-free = record {
-        places = length-set tags at (q / 128) ∙ k .places;
+        places = length-set tags at (q / 64) ∙ k .places;
         pages = length-set masks at mask ∙ k .pages;
         words = words';
         exact = λ s l. go s l (ℕ-discrete s at);
         free = free';
       }
         where
-          here : getD (set tags at (q / 128)) at 0 * 128 + at ≡ q
-          here = let f = getD-set-same tags at (q / 128) 0 (omega (arith, k .places)) in omega arith
+          here : getD (set tags at (q / 64)) at 0 * 64 + at ≡ q
+          here = let f = getD-set-same tags at (q / 64) 0 (omega (arith, k .places)) in omega arith
 
-          own : Of (andHeld held q mask) (getD (set tags at (q / 128)) at 0 * 128 + at) (getD (set masks at mask) at 0)
+          own : Of (andHeld held q mask) (getD (set tags at (q / 64)) at 0 * 64 + at) (getD (set masks at mask) at 0)
           own b l =
               ap (λ (m : ℕ). bit m b) (getD-set-same masks at mask 0 (omega (arith, k .pages)))
               ∙ ap (λ (h : Bool). h || bit mask b) (sym (bit-none b) ∙ k .free q e b l)
               ∙ sym (own-page b l)
               ∙ ap (λ (x : ℕ). andHeld held q mask (x * 64 + b)) (sym here)
 
-          go : (s : ℕ) → s < 128 → Dec (s ≡ at) → Of (andHeld held q mask) (getD (set tags at (q / 128)) s 0 * 128 + s) (getD (set masks at mask) s 0)
-          go s l (yes z) = subst (λ (x : ℕ). Of (andHeld held q mask) (getD (set tags at (q / 128)) x 0 * 128 + x) (getD (set masks at mask) x 0)) (sym z) own
+          go : (s : ℕ) → s < 64 → Dec (s ≡ at) → Of (andHeld held q mask) (getD (set tags at (q / 64)) s 0 * 64 + s) (getD (set masks at mask) s 0)
+          go s l (yes z) = subst (λ (x : ℕ). Of (andHeld held q mask) (getD (set tags at (q / 64)) x 0 * 64 + x) (getD (set masks at mask) x 0)) (sym z) own
           go s l (no n) = λ b h.
               ap (λ (m : ℕ). bit m b) (getD-set-other masks at s mask 0 n)
               ∙ elsewhere s l n b h
-              ∙ ap (λ (t : ℕ). andHeld held q mask ((t * 128 + s) * 64 + b)) (sym (getD-set-other tags at s (q / 128) 0 n))
+              ∙ ap (λ (t : ℕ). andHeld held q mask ((t * 64 + s) * 64 + b)) (sym (getD-set-other tags at s (q / 64) 0 n))
 
 -- ---- notes of the same pages, of none, and of any
 
@@ -166,7 +166,7 @@ known-same f g tags masks marks e k = record {
   places = k .places;
   pages = k .pages;
   words = k .words;
-  exact = λ s l b h. k .exact s l b h ∙ e ((getD tags s 0 * 128 + s) * 64 + b);
+  exact = λ s l b h. k .exact s l b h ∙ e ((getD tags s 0 * 64 + s) * 64 + b);
   free = λ q z b h. k .free q z b h ∙ e (q * 64 + b);
 }
 
@@ -177,22 +177,22 @@ alike x (suc n) zero h = refl
 alike x (suc n) (suc i) h = alike x n i (omega arith)
 
 -- fresh notes, while no page is held
-pub known-none : Known (λ p. false) (replicate 128 0) (replicate 128 0) (replicate 64 0)
+pub known-none : Known (λ p. false) (replicate 64 0) (replicate 64 0) (replicate 64 0)
 known-none = record {
-  places = length-replicate {A = ℕ} 128 0;
-  pages = length-replicate {A = ℕ} 128 0;
+  places = length-replicate {A = ℕ} 64 0;
+  pages = length-replicate {A = ℕ} 64 0;
   words = length-replicate {A = ℕ} 64 0;
-  exact = λ s l b h. ap (λ (m : ℕ). bit m b) (alike 0 128 s l) ∙ bit-none b;
+  exact = λ s l b h. ap (λ (m : ℕ). bit m b) (alike 0 64 s l) ∙ bit-none b;
   free = λ q z b h. bit-none b;
 }
 
 -- notes that know nothing: each place has a window past the last, and each mark is set
-pub known-nothing : (held : ℕ → Bool) → ((p : ℕ) → 4294967296 ≤ p → held p ≡ false) → Known held (replicate 128 4294967295) (replicate 128 0) (replicate 64 18446744073709551615)
+pub known-nothing : (held : ℕ → Bool) → ((p : ℕ) → 4294967296 ≤ p → held p ≡ false) → Known held (replicate 64 4294967295) (replicate 64 0) (replicate 64 18446744073709551615)
 known-nothing held none = record {
-  places = length-replicate {A = ℕ} 128 4294967295;
-  pages = length-replicate {A = ℕ} 128 0;
+  places = length-replicate {A = ℕ} 64 4294967295;
+  pages = length-replicate {A = ℕ} 64 0;
   words = length-replicate {A = ℕ} 64 18446744073709551615;
-  exact = λ s l b h. ap (λ (m : ℕ). bit m b) (alike 0 128 s l) ∙ bit-none b ∙ sym (none ((getD (replicate 128 4294967295) s 0 * 128 + s) * 64 + b) (let e = alike 4294967295 128 s l in omega arith));
+  exact = λ s l b h. ap (λ (m : ℕ). bit m b) (alike 0 64 s l) ∙ bit-none b ∙ sym (none ((getD (replicate 64 4294967295) s 0 * 64 + s) * 64 + b) (let e = alike 4294967295 64 s l in omega arith));
   free = λ q z. absurd (clash (marked (replicate 64 18446744073709551615) q) (set-mark q) z);
 }
   where

@@ -18,10 +18,10 @@ Of held q mask = (b : ℕ) → b < 64 → bit mask b ≡ held (q * 64 + b)
 
 -- each place has the held pages of its window; a window without a mark has none
 pub record Known (held : ℕ → Bool) (tags masks marks : List ℕ) : Type 0 where
-  pub places : length tags ≡ 128
-  pub pages : length masks ≡ 128
+  pub places : length tags ≡ 64
+  pub pages : length masks ≡ 64
   pub words : length marks ≡ 64
-  pub exact : (s : ℕ) → s < 128 → Of held (getD tags s 0 * 128 + s) (getD masks s 0)
+  pub exact : (s : ℕ) → s < 64 → Of held (getD tags s 0 * 64 + s) (getD masks s 0)
   pub free : (q : ℕ) → marked marks q ≡ false → Of held q 0
 
 -- what is told of a window, if it is known, is so

@@ -58,8 +58,8 @@ fn count_items(commits: &[u8], path: Path, count: PageCount) -> usize
     requires { ⌜ (commitsOk (now commits) ≡ true) × Inside (now commits) (placesIn (path .runs)) ⌝ }
     ensures { λ r. ⌜ r ≡ length (itemsFrom (now (commits .entry)) (count .0) (placesIn (path .runs)) 0) ⌝ }
 {
-    let mut tags = [0u32; 128];
-    let mut masks = [0u64; 128];
+    let mut tags = [0u32; 64];
+    let mut masks = [0u64; 64];
     let mut marks = [0u64; 64];
     let mut left = [0u64; 32];
     let mut k: usize = 0;
@@ -102,8 +102,8 @@ fn put_items(commits: &[u8], path: Path, count: PageCount, list: &mut [u8]) -> u
     ensures { λ r. ⌜ (r ≡ length (itemsFrom (now (commits .entry)) (count .0) (placesIn (path .runs)) 0)) × (r ≤ 524280) ⌝ }
     ensures { λ _. ⌜ now (list .exit) ≡ put 0 (flat (itemBytes .spell) (itemsFrom (now (commits .entry)) (count .0) (placesIn (path .runs)) 0)) (now (list .entry)) ⌝ }
 {
-    let mut tags = [0u32; 128];
-    let mut masks = [0u64; 128];
+    let mut tags = [0u32; 64];
+    let mut masks = [0u64; 64];
     let mut marks = [0u64; 64];
     let mut left = [0u64; 32];
     let mut k: usize = 0;
