@@ -4,169 +4,169 @@ use Rattle.std.proofs.Common.{◌≡◌, ℕ, zero, suc, ◌+◌, ◌-◌, ◌*�
 use mathlib.Core.Option.{Option, none, some}
 use lib.ListN.{length-map}
 use Rattle.octets.specs.Bytes.{be, part}
-use Rattle.octets.specs.Order.{lex, order, thenBy}
-use Rattle.std.specs.Answers.{Answer, refused, done, ask, code, ◌>>◌}
+use Rattle.octets.specs.Order.{lex, order, then_by}
+use Rattle.basics.specs.Answers.{Answer, refused, done, ask, code, ◌>>◌}
 use Rattle.rules.specs.Lists.{all}
 use Rattle.rules.specs.Records.{Range, Snapshot}
-use Rattle.rules.specs.Arguments.{rangeLsns, rangeOrder, snapshotLsns, snapshotOrder, snapshotNew, snapshotAppend}
+use Rattle.rules.specs.Arguments.{range_lsns, range_order, snapshot_lsns, snapshot_order, snapshot_new, snapshot_append}
 use Rattle.pageset.proofs.FormLaws.{and_both}
 use Rattle.volume.specs.declared.snapshot.SnapshotAnswer.{SnapshotAnswer}
 use Rattle.volume.specs.Snapshots as Snap
 use Rattle.volume.specs.declared.snapshot.Snapshot as declared
 use Rattle.volume.specs.declared.snapshot.LogRange.{LogRange}
-use Rattle.volume.proofs.SnapshotLaws.{laid-says, in-form}
+use Rattle.volume.proofs.SnapshotLaws.{laid_says, in_form_lem}
 use Rattle.table.specs.Table.{runs}
 use Rattle.table.proofs.Rows.{length_runs}
 use Rattle.layout.specs.Codecs.{spelled}
-use Rattle.layout.specs.Values.{rangeBytes, snapshotBytes}
+use Rattle.layout.specs.Values.{range_bytes, snapshot_bytes}
 use Rattle.arguments.specs.declared.Reply.{Reply}
-use Rattle.arguments.specs.Replies.{none-under, value, given}
-use Rattle.arguments.specs.Snapshots.{snapshotIn, snapshotFormed, appendIn, headIn, headSays, snapshotLeft, snapshotPut, orThree}
+use Rattle.arguments.specs.Replies.{none_under, value, given}
+use Rattle.arguments.specs.Snapshots.{snapshot_in, snapshot_formed, append_in, head_in, head_says, snapshot_left, snapshot_put, or_three}
 use Rattle.arguments.proofs.ArgLaws.{whole}
 use Rattle.arguments.proofs.SetLaws.{Early}
 
-pub snapshot-size : snapshotBytes.size ≡ 262
-unfolding snapshotBytes rangeBytes
-snapshot-size = refl
+pub snapshot_size : snapshot_bytes.size ≡ 262
+unfolding snapshot_bytes range_bytes
+snapshot_size = refl
 
 -- ---- a snapshot that is laid out is in form
 
-none-zero : Snap.isZeroRange Snap.no_range ≡ true
-unfolding lex order thenBy
-none-zero = refl
+none_zero : Snap.is_zero_range Snap.no_range ≡ true
+unfolding lex order then_by
+none_zero = refl
 
-zeros : (n : ℕ) → all Snap.isZeroRange (replicate n Snap.no_range) ≡ true
+zeros : (n : ℕ) → all Snap.is_zero_range (replicate n Snap.no_range) ≡ true
 unfolding all
 zeros zero = refl
-zeros (suc n) = ap₂ ◌&&◌ none-zero (zeros n)
+zeros (suc n) = ap₂ ◌&&◌ none_zero (zeros n)
 
-pub laid-formed : (s : Snapshot) → length s.path ≤ 8 → Snap.inForm (Snap.laid s) ≡ true
-unfolding Snap.inForm Snap.laid
-laid-formed s h =
+pub laid_formed : (s : Snapshot) → length s.path ≤ 8 → Snap.in_form (Snap.laid s) ≡ true
+unfolding Snap.in_form Snap.laid
+laid_formed s h =
     and_both (leb (length s.path) 8) _ (le-leb (length s.path) 8 h)
-    (ap (all Snap.isZeroRange) (drop_at (map Snap.laidRange s.path) (replicate (8 - length s.path) Snap.no_range) (length s.path) (length-map s.path Snap.laidRange)) ∙ zeros (8 - length s.path))
+    (ap (all Snap.is_zero_range) (drop_at (map Snap.laid_range s.path) (replicate (8 - length s.path) Snap.no_range) (length s.path) (length-map s.path Snap.laid_range)) ∙ zeros (8 - length s.path))
 
 -- ---- an argument
 
 module _ (b : List ℕ) where
-  pub in-short : (length b ≡ 262 → ⊥) → record { path = []; count = 0 } ≡ snapshotIn b
-  unfolding snapshotIn
-  in-short h = sym (ap (λ (t : Bool). cond t (snapshotBytes.read b) (record { path = []; count = 0 })) (ap (eqb (length b)) snapshot-size ∙ ne_eqb (length b) 262 h))
+  pub in_short : (length b ≡ 262 → ⊥) → record { path = []; count = 0 } ≡ snapshot_in b
+  unfolding snapshot_in
+  in_short h = sym (ap (λ (t : Bool). cond t (snapshot_bytes.read b) (record { path = []; count = 0 })) (ap (eqb (length b)) snapshot_size ∙ ne_eqb (length b) 262 h))
 
-  pub in_whole : length b ≡ 262 → snapshotBytes.read (part 0 262 b) ≡ snapshotIn b
-  unfolding snapshotIn
+  pub in_whole : length b ≡ 262 → snapshot_bytes.read (part 0 262 b) ≡ snapshot_in b
+  unfolding snapshot_in
   in_whole e =
-      ap snapshotBytes.read (whole 262 b e)
-      ∙ sym (ap (λ (t : Bool). cond t (snapshotBytes.read b) (record { path = []; count = 0 })) (ap (eqb (length b)) snapshot-size ∙ eq-eqb (length b) 262 e))
+      ap snapshot_bytes.read (whole 262 b e)
+      ∙ sym (ap (λ (t : Bool). cond t (snapshot_bytes.read b) (record { path = []; count = 0 })) (ap (eqb (length b)) snapshot_size ∙ eq-eqb (length b) 262 e))
 
-  pub formed-short : (length b ≡ 262 → ⊥) → false ≡ snapshotFormed b
-  unfolding snapshotFormed
-  formed-short h = sym (ap (λ (t : Bool). t && spelled snapshotBytes b) (ap (eqb (length b)) snapshot-size ∙ ne_eqb (length b) 262 h))
+  pub formed_short : (length b ≡ 262 → ⊥) → false ≡ snapshot_formed b
+  unfolding snapshot_formed
+  formed_short h = sym (ap (λ (t : Bool). t && spelled snapshot_bytes b) (ap (eqb (length b)) snapshot_size ∙ ne_eqb (length b) 262 h))
 
-  pub formed-whole : length b ≡ 262 → spelled snapshotBytes (part 0 262 b) ≡ snapshotFormed b
-  unfolding snapshotFormed
-  formed-whole e =
-      ap (spelled snapshotBytes) (whole 262 b e)
-      ∙ sym (ap (λ (t : Bool). t && spelled snapshotBytes b) (ap (eqb (length b)) snapshot-size ∙ eq-eqb (length b) 262 e))
+  pub formed_whole : length b ≡ 262 → spelled snapshot_bytes (part 0 262 b) ≡ snapshot_formed b
+  unfolding snapshot_formed
+  formed_whole e =
+      ap (spelled snapshot_bytes) (whole 262 b e)
+      ∙ sym (ap (λ (t : Bool). t && spelled snapshot_bytes b) (ap (eqb (length b)) snapshot_size ∙ eq-eqb (length b) 262 e))
 
-  read-few : length (snapshotBytes.read b).path ≤ 8
-  unfolding snapshotBytes
-  read-few =
-      let n : ℕ = min (be (part 0 1 (part 4 (1 + 8 * rangeBytes.size) (part 1 (4 + (1 + 8 * rangeBytes.size)) b)))) 8 in
-      omega (arith, length-map (runs n rangeBytes.size 1 (part 4 (1 + 8 * rangeBytes.size) (part 1 (4 + (1 + 8 * rangeBytes.size)) b))) rangeBytes.read, length_runs rangeBytes.size n 1 (part 4 (1 + 8 * rangeBytes.size) (part 1 (4 + (1 + 8 * rangeBytes.size)) b)))
+  read_few : length (snapshot_bytes.read b).path ≤ 8
+  unfolding snapshot_bytes
+  read_few =
+      let n : ℕ = min (be (part 0 1 (part 4 (1 + 8 * range_bytes.size) (part 1 (4 + (1 + 8 * range_bytes.size)) b)))) 8 in
+      omega (arith, length-map (runs n range_bytes.size 1 (part 4 (1 + 8 * range_bytes.size) (part 1 (4 + (1 + 8 * range_bytes.size)) b))) range_bytes.read, length_runs range_bytes.size n 1 (part 4 (1 + 8 * range_bytes.size) (part 1 (4 + (1 + 8 * range_bytes.size)) b)))
 
-  few-by : (t : Bool) → length (cond t (snapshotBytes.read b) (record { path = []; count = 0 })).path ≤ 8
-  few-by true = read-few
-  few-by false = omega arith
+  few_by : (t : Bool) → length (cond t (snapshot_bytes.read b) (record { path = []; count = 0 })).path ≤ 8
+  few_by true = read_few
+  few_by false = omega arith
 
-  pub in-few : length (snapshotIn b).path ≤ 8
-  unfolding snapshotIn
-  in-few = few-by (eqb (length b) snapshotBytes.size)
+  pub in_few : length (snapshot_in b).path ≤ 8
+  unfolding snapshot_in
+  in_few = few_by (eqb (length b) snapshot_bytes.size)
 
 -- ---- an answer by value, as it is put
 
 module _ (was : List ℕ) (a : SnapshotAnswer) where
   abbrev own : Reply × List ℕ
-  own = (none-under a.code, was)
+  own = (none_under a.code, was)
 
   abbrev said : Snapshot
-  said = Snap.snapshotSays a.snapshot
+  said = Snap.snapshot_says a.snapshot
 
-  pub put_refused : (a.code ≡ 0 → ⊥) → own ≡ snapshotPut was a
-  unfolding snapshotPut
-  put_refused h = sym (ap (λ (t : Bool). cond t (snapshotLeft was (done said)) own) (ne_eqb a.code 0 h))
+  pub put_refused : (a.code ≡ 0 → ⊥) → own ≡ snapshot_put was a
+  unfolding snapshot_put
+  put_refused h = sym (ap (λ (t : Bool). cond t (snapshot_left was (done said)) own) (ne_eqb a.code 0 h))
 
-  left_by : (t : Bool) → eqb (length was) 262 ≡ t → value snapshotBytes.spell was (ask t 3 >> done said) ≡ snapshotLeft was (done said)
-  left_by t e = ap (λ (u : Bool). value snapshotBytes.spell was (ask u 3 >> done said)) (sym (ap (eqb (length was)) snapshot-size ∙ e))
+  left_by : (t : Bool) → eqb (length was) 262 ≡ t → value snapshot_bytes.spell was (ask t 3 >> done said) ≡ snapshot_left was (done said)
+  left_by t e = ap (λ (u : Bool). value snapshot_bytes.spell was (ask u 3 >> done said)) (sym (ap (eqb (length was)) snapshot_size ∙ e))
 
-  pub put-short : a.code ≡ 0 → (length was ≡ 262 → ⊥) → (none-under 3, was) ≡ snapshotPut was a
-  unfolding snapshotPut
-  put-short e h = left_by false (ne_eqb (length was) 262 h) ∙ sym (ap (λ (t : Bool). cond t (snapshotLeft was (done said)) own) (eq-eqb a.code 0 e))
+  pub put_short : a.code ≡ 0 → (length was ≡ 262 → ⊥) → (none_under 3, was) ≡ snapshot_put was a
+  unfolding snapshot_put
+  put_short e h = left_by false (ne_eqb (length was) 262 h) ∙ sym (ap (λ (t : Bool). cond t (snapshot_left was (done said)) own) (eq-eqb a.code 0 e))
 
-  pub put_whole : a.code ≡ 0 → length was ≡ 262 → (given, snapshotBytes.spell said) ≡ snapshotPut was a
-  unfolding snapshotPut
-  put_whole e h = left_by true (eq-eqb (length was) 262 h) ∙ sym (ap (λ (t : Bool). cond t (snapshotLeft was (done said)) own) (eq-eqb a.code 0 e))
+  pub put_whole : a.code ≡ 0 → length was ≡ 262 → (given, snapshot_bytes.spell said) ≡ snapshot_put was a
+  unfolding snapshot_put
+  put_whole e h = left_by true (eq-eqb (length was) 262 h) ∙ sym (ap (λ (t : Bool). cond t (snapshot_left was (done said)) own) (eq-eqb a.code 0 e))
 
 -- ---- what is left of an answer to a rule
 
 module _ (was : List ℕ) (a : SnapshotAnswer) where
   -- a rule's answer, laid out, is left as the rule's
-  pub left-snapshot : (q : Answer Snapshot) → Early q → a ≡ Snap.laidAnswer q → snapshotPut was a ≡ snapshotLeft was q
-  unfolding snapshotPut
-  left-snapshot (refused n) l e =
+  pub left_snapshot : (q : Answer Snapshot) → Early q → a ≡ Snap.laid_answer q → snapshot_put was a ≡ snapshot_left was q
+  unfolding snapshot_put
+  left_snapshot (refused n) l e =
       let c : a.code ≡ n = ap (λ (x : SnapshotAnswer). x.code) e in
-      ap₂ (λ (t : Bool) (k : ℕ). cond t (snapshotLeft was (done (Snap.snapshotSays a.snapshot))) (none-under k, was)) (ap (λ (k : ℕ). eqb k 0) c ∙ ne_eqb n 0 (λ z. omega arith)) c
-  left-snapshot (done s) l e =
-      ap (λ (x : SnapshotAnswer). cond (eqb x.code 0) (snapshotLeft was (done (Snap.snapshotSays x.snapshot))) (none-under x.code, was)) e
-      ∙ ap (λ (x : Snapshot). snapshotLeft was (done x)) (laid-says s)
+      ap₂ (λ (t : Bool) (k : ℕ). cond t (snapshot_left was (done (Snap.snapshot_says a.snapshot))) (none_under k, was)) (ap (λ (k : ℕ). eqb k 0) c ∙ ne_eqb n 0 (λ z. omega arith)) c
+  left_snapshot (done s) l e =
+      ap (λ (x : SnapshotAnswer). cond (eqb x.code 0) (snapshot_left was (done (Snap.snapshot_says x.snapshot))) (none_under x.code, was)) e
+      ∙ ap (λ (x : Snapshot). snapshot_left was (done x)) (laid_says s)
 
 -- an answer of at most 8 ranges is in form, and so is a refusal's empty snapshot
 abbrev Few : Answer Snapshot → Type 0
 Few (refused n) = Unit {0}
 Few (done s) = length s.path ≤ 8
 
-pub answer-formed : (a : SnapshotAnswer) (q : Answer Snapshot) → Few q → a ≡ Snap.laidAnswer q → Snap.inForm a.snapshot ≡ true
-answer-formed a (refused n) f e = ap (λ (x : SnapshotAnswer). Snap.inForm x.snapshot) e ∙ laid-formed (record { path = []; count = 0 }) (omega arith)
-answer-formed a (done s) f e = ap (λ (x : SnapshotAnswer). Snap.inForm x.snapshot) e ∙ laid-formed s f
+pub answer_formed : (a : SnapshotAnswer) (q : Answer Snapshot) → Few q → a ≡ Snap.laid_answer q → Snap.in_form a.snapshot ≡ true
+answer_formed a (refused n) f e = ap (λ (x : SnapshotAnswer). Snap.in_form x.snapshot) e ∙ laid_formed (record { path = []; count = 0 }) (omega arith)
+answer_formed a (done s) f e = ap (λ (x : SnapshotAnswer). Snap.in_form x.snapshot) e ∙ laid_formed s f
 
 -- ---- the two rules: checks of 1, 2 and 3, at most 8 ranges
 
-chain-early : (b c d : Bool) (s : Snapshot) → Early (ask b 1 >> (ask c 2 >> (ask d 3 >> done s)))
-chain-early true true true s = tt
-chain-early true true false s = (omega arith, omega arith)
-chain-early true false d s = (omega arith, omega arith)
-chain-early false c d s = (omega arith, omega arith)
+chain_early : (b c d : Bool) (s : Snapshot) → Early (ask b 1 >> (ask c 2 >> (ask d 3 >> done s)))
+chain_early true true true s = tt
+chain_early true true false s = (omega arith, omega arith)
+chain_early true false d s = (omega arith, omega arith)
+chain_early false c d s = (omega arith, omega arith)
 
-chain-few : (b c d : Bool) (s : Snapshot) → (d ≡ true → length s.path ≤ 8) → Few (ask b 1 >> (ask c 2 >> (ask d 3 >> done s)))
-chain-few true true true s h = h refl
-chain-few true true false s h = tt
-chain-few true false d s h = tt
-chain-few false c d s h = tt
+chain_few : (b c d : Bool) (s : Snapshot) → (d ≡ true → length s.path ≤ 8) → Few (ask b 1 >> (ask c 2 >> (ask d 3 >> done s)))
+chain_few true true true s h = h refl
+chain_few true true false s h = tt
+chain_few true false d s h = tt
+chain_few false c d s h = tt
 
 module _ (r : Range) (count : ℕ) where
   abbrev one : Snapshot
   one = record { path = r ∷ []; count = count }
 
-  pub new-early : Early (snapshotNew r count)
-  unfolding snapshotNew
-  new-early = chain-early (rangeLsns r) (rangeOrder r) true one
+  pub new_early : Early (snapshot_new r count)
+  unfolding snapshot_new
+  new_early = chain_early (range_lsns r) (range_order r) true one
 
-  pub new-few : Few (snapshotNew r count)
-  unfolding snapshotNew
-  new-few = chain-few (rangeLsns r) (rangeOrder r) true one (λ e. omega arith)
+  pub new_few : Few (snapshot_new r count)
+  unfolding snapshot_new
+  new_few = chain_few (range_lsns r) (range_order r) true one (λ e. omega arith)
 
 module _ (s : Snapshot) (r : Range) where
   abbrev more : Snapshot
   more = record { path = s.path ++ (r ∷ []); count = s.count }
 
-  pub append-early : Early (snapshotAppend s r)
-  unfolding snapshotAppend
-  append-early = chain-early (snapshotLsns s && rangeLsns r) (snapshotOrder s && rangeOrder r) (ltb (length s.path) 8) more
+  pub append_early : Early (snapshot_append s r)
+  unfolding snapshot_append
+  append_early = chain_early (snapshot_lsns s && range_lsns r) (snapshot_order s && range_order r) (ltb (length s.path) 8) more
 
-  pub append-few : Few (snapshotAppend s r)
-  unfolding snapshotAppend
-  append-few =
-      chain-few (snapshotLsns s && rangeLsns r) (snapshotOrder s && rangeOrder r) (ltb (length s.path) 8) more
+  pub append_few : Few (snapshot_append s r)
+  unfolding snapshot_append
+  append_few =
+      chain_few (snapshot_lsns s && range_lsns r) (snapshot_order s && range_order r) (ltb (length s.path) 8) more
       (λ e. omega (arith, length-append s.path (r ∷ []), ltb-true (length s.path) 8 e))
 
 -- ---- the form of the bytes, in its turn
@@ -180,70 +180,70 @@ module _ (s : Snapshot) where
   passed true false d = refl
   passed false c d = refl
 
-  stopped : (b c d : Bool) → refused (orThree (code (chain b c d))) ≡ ask b 1 >> (ask c 2 >> (ask false 3 >> chain b c d))
+  stopped : (b c d : Bool) → refused (or_three (code (chain b c d))) ≡ ask b 1 >> (ask c 2 >> (ask false 3 >> chain b c d))
   stopped true true true = refl
   stopped true true false = refl
   stopped true false d = refl
   stopped false c d = refl
 
 module _ (b : List ℕ) (r : Range) where
-  pub append-formed : snapshotFormed b ≡ true → snapshotAppend (snapshotIn b) r ≡ appendIn b r
-  unfolding appendIn snapshotAppend
-  append-formed e = rw e (passed (more (snapshotIn b) r) (snapshotLsns (snapshotIn b) && rangeLsns r) (snapshotOrder (snapshotIn b) && rangeOrder r) (ltb (length (snapshotIn b).path) 8))
+  pub append_formed : snapshot_formed b ≡ true → snapshot_append (snapshot_in b) r ≡ append_in b r
+  unfolding append_in snapshot_append
+  append_formed e = rw e (passed (more (snapshot_in b) r) (snapshot_lsns (snapshot_in b) && range_lsns r) (snapshot_order (snapshot_in b) && range_order r) (ltb (length (snapshot_in b).path) 8))
 
-  pub append-unformed : snapshotFormed b ≡ false → refused (orThree (code (snapshotAppend (snapshotIn b) r))) ≡ appendIn b r
-  unfolding appendIn snapshotAppend
-  append-unformed e = rw e (stopped (more (snapshotIn b) r) (snapshotLsns (snapshotIn b) && rangeLsns r) (snapshotOrder (snapshotIn b) && rangeOrder r) (ltb (length (snapshotIn b).path) 8))
+  pub append_unformed : snapshot_formed b ≡ false → refused (or_three (code (snapshot_append (snapshot_in b) r))) ≡ append_in b r
+  unfolding append_in snapshot_append
+  append_unformed e = rw e (stopped (more (snapshot_in b) r) (snapshot_lsns (snapshot_in b) && range_lsns r) (snapshot_order (snapshot_in b) && range_order r) (ltb (length (snapshot_in b).path) 8))
 
 -- the number of an answer that is laid out is the rule's
-pub laid_code : (a : SnapshotAnswer) (q : Answer Snapshot) → a ≡ Snap.laidAnswer q → a.code ≡ code q
+pub laid_code : (a : SnapshotAnswer) (q : Answer Snapshot) → a ≡ Snap.laid_answer q → a.code ≡ code q
 laid_code a (refused n) e = ap (λ (x : SnapshotAnswer). x.code) e
 laid_code a (done s) e = ap (λ (x : SnapshotAnswer). x.code) e
 
 -- a head that is laid out says what it was laid out for
-pub head-says : (h : Option (List ℕ × ℕ)) → headSays (Snap.laidHead h) ≡ h
-head-says none = refl
-head-says (some h) = refl
+pub head_says_lem : (h : Option (List ℕ × ℕ)) → head_says (Snap.laid_head h) ≡ h
+head_says_lem none = refl
+head_says_lem (some h) = refl
 
 -- the checks of a head, in their turn
 module _ (b : List ℕ) where
   abbrev lsns : Bool
-  lsns = snapshotLsns (snapshotIn b)
+  lsns = snapshot_lsns (snapshot_in b)
 
   abbrev ordered : Bool
-  ordered = snapshotOrder (snapshotIn b)
+  ordered = snapshot_order (snapshot_in b)
 
-  pub head-lsns : lsns ≡ false → refused 1 ≡ headIn b
-  unfolding headIn
-  head-lsns e = rw e
+  pub head_lsns : lsns ≡ false → refused 1 ≡ head_in b
+  unfolding head_in
+  head_lsns e = rw e
 
-  pub head-order : lsns ≡ true → ordered ≡ false → refused 2 ≡ headIn b
-  unfolding headIn
-  head-order e f = rw (e, f)
+  pub head_order : lsns ≡ true → ordered ≡ false → refused 2 ≡ head_in b
+  unfolding head_in
+  head_order e f = rw (e, f)
 
-  pub head-unformed : lsns ≡ true → ordered ≡ true → snapshotFormed b ≡ false → refused 3 ≡ headIn b
-  unfolding headIn
-  head-unformed e f g = rw (e, f, g)
+  pub head_unformed : lsns ≡ true → ordered ≡ true → snapshot_formed b ≡ false → refused 3 ≡ head_in b
+  unfolding head_in
+  head_unformed e f g = rw (e, f, g)
 
-  pub head_done : lsns ≡ true → ordered ≡ true → snapshotFormed b ≡ true → done (Snap.head_of (snapshotIn b)) ≡ headIn b
-  unfolding headIn
+  pub head_done : lsns ≡ true → ordered ≡ true → snapshot_formed b ≡ true → done (Snap.head_of (snapshot_in b)) ≡ head_in b
+  unfolding head_in
   head_done e f g = rw (e, f, g)
 
 -- ---- the value that an argument became
 
-module _ (b : List ℕ) (s : declared.Snapshot) (e : s ≡ Snap.laid (snapshotIn b)) where
+module _ (b : List ℕ) (s : declared.Snapshot) (e : s ≡ Snap.laid (snapshot_in b)) where
   -- it says what the bytes spell
-  pub arg-says : Snap.snapshotSays s ≡ snapshotIn b
-  arg-says = ap Snap.snapshotSays e ∙ laid-says (snapshotIn b)
+  pub arg_says : Snap.snapshot_says s ≡ snapshot_in b
+  arg_says = ap Snap.snapshot_says e ∙ laid_says (snapshot_in b)
 
   -- it has at most 8 ranges
-  pub arg-few : s.len ≤ 8
+  pub arg_few : s.len ≤ 8
   unfolding Snap.laid
-  arg-few = omega (arith, in-few b, ap (λ (x : declared.Snapshot). x.len) e)
+  arg_few = omega (arith, in_few b, ap (λ (x : declared.Snapshot). x.len) e)
 
-  arg-formed : Snap.inForm s ≡ true
-  arg-formed = ap Snap.inForm e ∙ laid-formed (snapshotIn b) (in-few b)
+  arg_formed : Snap.in_form s ≡ true
+  arg_formed = ap Snap.in_form e ∙ laid_formed (snapshot_in b) (in_few b)
 
   -- and the call by value answers the rule on that
-  pub answer-append : (r : LogRange) (range : Range) (a : SnapshotAnswer) → Snap.rangeSays r ≡ range → a ≡ Snap.laidAnswer (Snap.appended s r) → a ≡ Snap.laidAnswer (snapshotAppend (snapshotIn b) range)
-  answer-append r range a f h = h ∙ ap Snap.laidAnswer (in-form s r arg-formed ∙ ap₂ snapshotAppend arg-says f)
+  pub answer_append : (r : LogRange) (range : Range) (a : SnapshotAnswer) → Snap.range_says r ≡ range → a ≡ Snap.laid_answer (Snap.appended s r) → a ≡ Snap.laid_answer (snapshot_append (snapshot_in b) range)
+  answer_append r range a f h = h ∙ ap Snap.laid_answer (in_form_lem s r arg_formed ∙ ap₂ snapshot_append arg_says f)

@@ -1,21 +1,21 @@
 // Answers by value as a reply and what is lent: written where there is an answer under 0, else as found.
 ghost use Rattle.std.specs.Prelude.{◌≡◌};
-ghost use Rattle.std.specs.Answers.{done};
-ghost use Rattle.std.specs.Says.{lsnSays, maybeLsnSays, pageSays, maybePageSays};
-ghost use Rattle.volume.specs.Volumes.{changesSays};
-ghost use Rattle.pagecalls.specs.Says.{countSays, pageSays as endSays, yesSays};
-ghost use Rattle.arguments.specs.Replies.{value, valueOr, yesOrNo, numberedReply, bit as bit_of};
+ghost use Rattle.basics.specs.Answers.{done};
+ghost use Rattle.basics.specs.Says.{lsn_says, maybe_lsn_says, page_says, maybe_page_says};
+ghost use Rattle.volume.specs.Volumes.{changes_says};
+ghost use Rattle.pagecalls.specs.Says.{count_says, page_says as endSays, yes_says};
+ghost use Rattle.arguments.specs.Replies.{value, value_or, yes_or_no, numbered_reply, bit as bit_of};
 
 use super::Reply;
-use core::lsn::{LsnAnswer, MaybeLsnAnswer};
-use core::page_count::MaybePage;
-use core::pageidx::PageAnswer;
+use basics::lsn::{LsnAnswer, MaybeLsnAnswer};
+use basics::page_count::MaybePage;
+use basics::pageidx::PageAnswer;
 use pagecalls::{CountAnswer, YesAnswer};
 use volume::volume::ChangesAnswer;
 
 // An LSN.
 pub fn put_lsn(a: LsnAnswer, out: &mut u64) -> Reply
-    ensures { (result, out.new) ≡ value (λ m. m) out.old (lsnSays a) }
+    ensures { (result, out.new) ≡ value (λ m. m) out.old (lsn_says a) }
 {
     match a {
         LsnAnswer::Refused(code) => Reply { code, found: 0 },
@@ -28,7 +28,7 @@ pub fn put_lsn(a: LsnAnswer, out: &mut u64) -> Reply
 
 // An LSN or nothing.
 pub fn put_maybe_lsn(a: MaybeLsnAnswer, out: &mut u64) -> Reply
-    ensures { (result, out.new) ≡ valueOr (λ m. m) out.old (maybeLsnSays a) }
+    ensures { (result, out.new) ≡ value_or (λ m. m) out.old (maybe_lsn_says a) }
 {
     match a {
         MaybeLsnAnswer::Refused(code) => Reply { code, found: 0 },
@@ -42,7 +42,7 @@ pub fn put_maybe_lsn(a: MaybeLsnAnswer, out: &mut u64) -> Reply
 
 // A page.
 pub fn put_page(a: PageAnswer, out: &mut u32) -> Reply
-    ensures { (result, out.new) ≡ value (λ m. m) out.old (pageSays a) }
+    ensures { (result, out.new) ≡ value (λ m. m) out.old (page_says a) }
 {
     match a {
         PageAnswer::Refused(code) => Reply { code, found: 0 },
@@ -55,7 +55,7 @@ pub fn put_page(a: PageAnswer, out: &mut u32) -> Reply
 
 // A page or nothing.
 pub fn put_maybe_page(a: MaybePage, out: &mut u32) -> Reply
-    ensures { (result, out.new) ≡ valueOr (λ m. m) out.old (done (maybePageSays a)) }
+    ensures { (result, out.new) ≡ value_or (λ m. m) out.old (done (maybe_page_says a)) }
 {
     match a {
         MaybePage::At(p) => {
@@ -68,7 +68,7 @@ pub fn put_maybe_page(a: MaybePage, out: &mut u32) -> Reply
 
 // A range of LSNs or nothing.
 pub fn put_changes(a: ChangesAnswer, start: &mut u64, end: &mut u64) -> Reply
-    ensures { (result, (start.new, end.new)) ≡ valueOr (λ m. m) (start.old, end.old) (changesSays a) }
+    ensures { (result, (start.new, end.new)) ≡ value_or (λ m. m) (start.old, end.old) (changes_says a) }
 {
     match a {
         ChangesAnswer::Refused(code) => Reply { code, found: 0 },
@@ -86,7 +86,7 @@ pub fn put_changes(a: ChangesAnswer, start: &mut u64, end: &mut u64) -> Reply
 
 // A number of pages.
 pub fn put_count(a: CountAnswer, out: &mut u32) -> Reply
-    ensures { (result, out.new) ≡ value (λ m. m) out.old (countSays a) }
+    ensures { (result, out.new) ≡ value (λ m. m) out.old (count_says a) }
 {
     match a {
         CountAnswer::Refused(code) => Reply { code, found: 0 },
@@ -99,7 +99,7 @@ pub fn put_count(a: CountAnswer, out: &mut u32) -> Reply
 
 // A set's first or last page, or nothing.
 pub fn put_end(a: pagecalls::PageAnswer, out: &mut u32) -> Reply
-    ensures { (result, out.new) ≡ valueOr (λ m. m) out.old (endSays a) }
+    ensures { (result, out.new) ≡ value_or (λ m. m) out.old (endSays a) }
 {
     match a {
         pagecalls::PageAnswer::Refused(code) => Reply { code, found: 0 },
@@ -113,7 +113,7 @@ pub fn put_end(a: pagecalls::PageAnswer, out: &mut u32) -> Reply
 
 // Yes or no.
 pub fn yes_or_no(a: YesAnswer) -> Reply
-    ensures { result ≡ yesOrNo (yesSays a) }
+    ensures { result ≡ yes_or_no (yes_says a) }
 {
     match a {
         YesAnswer::Refused(code) => Reply { code, found: 0 },
@@ -131,7 +131,7 @@ pub fn bit(b: bool) -> u32
 
 // The number of a call that answers nothing else.
 pub fn numbered(code: u32) -> Reply
-    ensures { result ≡ numberedReply code }
+    ensures { result ≡ numbered_reply code }
 {
     if code == 0 {
         return Reply { code: 0, found: 1 };

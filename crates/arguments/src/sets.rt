@@ -1,8 +1,8 @@
 // Page sets in bytes: as arguments, and as answers.
 ghost use Rattle.std.specs.Prelude.{◌≡◌, true};
 ghost use Rattle.pageset.specs.Sets.{normal};
-ghost use Rattle.arguments.specs.Args.{notASet, setArg};
-ghost use Rattle.arguments.specs.Sets.{early, setPut, cutPut};
+ghost use Rattle.arguments.specs.Args.{not_aset, set_arg};
+ghost use Rattle.arguments.specs.Sets.{early, set_put, cut_put};
 
 use super::Reply;
 use layout::SET;
@@ -11,7 +11,7 @@ use setbytes::{set_form, set_read, set_write};
 
 // A set that is not in normal form.
 pub fn not_a_set() -> PageSet
-    ensures { result ≡ notASet }
+    ensures { result ≡ not_aset }
 {
     let none = Window { index: 0, mask: 0 };
     PageSet {
@@ -22,7 +22,7 @@ pub fn not_a_set() -> PageSet
 
 // The set that an argument spells; one that is not in normal form where its length or its form is wrong.
 pub fn set_arg(b: &[u8]) -> PageSet
-    ensures { result ≡ setArg b.now }
+    ensures { result ≡ set_arg b.now }
 {
     if b.len() != SET {
         return not_a_set();
@@ -46,7 +46,7 @@ pub fn is_early(code: u32) -> bool
 // A set's answer in bytes: 1, 2 or 3 of the call; 3 for a lent slice of another length; 22; or the set, under `found`.
 pub fn put_set(a: SetAnswer, found: u32, out: &mut [u8]) -> Reply
     requires { normal a.set ≡ true }
-    ensures { (result, out.new) ≡ setPut found out.old a }
+    ensures { (result, out.new) ≡ set_put found out.old a }
 {
     let code = a.code;
     if is_early(code) {
@@ -66,7 +66,7 @@ pub fn put_set(a: SetAnswer, found: u32, out: &mut [u8]) -> Reply
 // A cut's answer in bytes: 3 of the call or for a lent slice of another length; or the common pages and those left.
 pub fn put_cut(a: CutAnswer, common: &mut [u8], rest: &mut [u8]) -> Reply
     requires { (normal a.common ≡ true) × (normal a.left ≡ true) }
-    ensures { (result, (common.new, rest.new)) ≡ cutPut common.old rest.old a }
+    ensures { (result, (common.new, rest.new)) ≡ cut_put common.old rest.old a }
 {
     let code = a.code;
     if code != 0 {

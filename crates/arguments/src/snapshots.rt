@@ -1,12 +1,12 @@
 // Snapshots in bytes: as arguments, and as answers.
 ghost use Rattle.std.specs.Prelude.{◌≡◌, true};
-ghost use Rattle.std.specs.Answers.{done};
-ghost use Rattle.volume.specs.Snapshots.{laid, inForm};
-ghost use Rattle.arguments.specs.Replies.{none-under, valueOr};
-ghost use Rattle.arguments.specs.Snapshots.{snapshotIn, snapshotFormed, headSays, snapshotPut, orThree};
+ghost use Rattle.basics.specs.Answers.{done};
+ghost use Rattle.volume.specs.Snapshots.{laid, in_form};
+ghost use Rattle.arguments.specs.Replies.{none_under, value_or};
+ghost use Rattle.arguments.specs.Snapshots.{snapshot_in, snapshot_formed, head_says, snapshot_put, or_three};
 
 use super::Reply;
-use core::page_count::PageCount;
+use basics::page_count::PageCount;
 use layout::SNAPSHOT;
 use snapshotbytes::{snapshot_form, snapshot_read, snapshot_write};
 use volume::snapshot::{Head, Snapshot, SnapshotAnswer};
@@ -14,7 +14,7 @@ use volume::volume::MaybeLsn;
 
 // The snapshot that an argument spells, of no range where its length is wrong.
 pub fn snapshot_arg(b: &[u8]) -> Snapshot
-    ensures { result ≡ laid (snapshotIn b.now) }
+    ensures { result ≡ laid (snapshot_in b.now) }
 {
     if b.len() != SNAPSHOT {
         return Snapshot::empty(PageCount(0));
@@ -24,7 +24,7 @@ pub fn snapshot_arg(b: &[u8]) -> Snapshot
 
 // Whether an argument has a snapshot's size and form; where it does not, number 3.
 pub fn snapshot_ok(b: &[u8]) -> bool
-    ensures { result ≡ snapshotFormed b.now }
+    ensures { result ≡ snapshot_formed b.now }
 {
     if b.len() != SNAPSHOT {
         return false;
@@ -34,8 +34,8 @@ pub fn snapshot_ok(b: &[u8]) -> bool
 
 // A snapshot's answer in bytes: the number of the call; 3 for a lent slice of another length; or the snapshot.
 pub fn put_snapshot(a: SnapshotAnswer, out: &mut [u8]) -> Reply
-    requires { inForm a.snapshot ≡ true }
-    ensures { (result, out.new) ≡ snapshotPut out.old a }
+    requires { in_form a.snapshot ≡ true }
+    ensures { (result, out.new) ≡ snapshot_put out.old a }
 {
     let code = a.code;
     if code != 0 {
@@ -51,7 +51,7 @@ pub fn put_snapshot(a: SnapshotAnswer, out: &mut [u8]) -> Reply
 
 // The reply of a call whose snapshot is not in form: its own 1 or 2, else 3.
 pub fn or_three(code: u32) -> Reply
-    ensures { result ≡ none-under (orThree code) }
+    ensures { result ≡ none_under (or_three code) }
 {
     if code == 0 {
         return Reply { code: 3, found: 0 };
@@ -61,7 +61,7 @@ pub fn or_three(code: u32) -> Reply
 
 // A head or nothing: its log and its LSN.
 pub fn put_head(head: Head, log: &mut [u8; 16], lsn: &mut u64) -> Reply
-    ensures { (result, (log.new, lsn.new)) ≡ valueOr (λ x. x) (log.old, lsn.old) (done (headSays head)) }
+    ensures { (result, (log.new, lsn.new)) ≡ value_or (λ x. x) (log.old, lsn.old) (done (head_says head)) }
 {
     let end = head.lsn;
     match end {

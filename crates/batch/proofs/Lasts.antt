@@ -1,6 +1,6 @@
--- The last record of a rising batch: after all are put, what the others leave of the records below it, then it, then what was above it (`last-in`).
+-- The last record of a rising batch: after all are put, what the others leave of the records below it, then it, then what was above it (`last_in`).
 -- So a batch can be put in from its last record down, and each record that is held moves at most once; and its new keys can be counted from the last down,
--- each sought among the records below the one before (`fresh-last`).
+-- each sought among the records below the one before (`fresh_last`).
 use mathlib.Core.Path.{◌≡◌, refl, sym, ap, ◌∙◌}
 use mathlib.Core.Bool.{true}
 use mathlib.Core.List.{List, [], ◌∷◌, ◌++◌, append-nil}
@@ -10,13 +10,13 @@ use lib.ListN.{length, take, drop, length-append, length-drop, take-append-drop}
 use lib.Seq.{length-take-le}
 use Rattle.octets.specs.declared.Order.{Order}
 use Rattle.octets.specs.declared.Order.TheVariants.{Less, Equal, Greater}
-use Rattle.table.specs.Records.{cmp, rises, spotBy, spot, place, hits, past, putBy, put}
+use Rattle.table.specs.Records.{cmp, rises, spot_by, spot, place, hits, past, put_by, put}
 use Rattle.table.specs.declared.Spot.{Spot}
 use Rattle.table.specs.declared.Spot.TheVariants.{At, Gap}
-use Rattle.table.proofs.Keys.{less-turned, greater-turned, cmp-right, cmp-trans, rises-head, rises-tail, rises-cons, rises-skip, rises-take}
-use Rattle.table.proofs.Spots.{past-le}
+use Rattle.table.proofs.Keys.{less_turned, greater_turned, cmp_right, cmp_trans, rises_head, rises_tail, rises_cons, rises_skip, rises_take}
+use Rattle.table.proofs.Spots.{past_le}
 use Rattle.batch.specs.Batch.{put_all, lacks, fresh}
-use Rattle.batch.proofs.Puts.{putAll-append, length-putAll-le, lacks-none, lacks-append, lacks-later, fresh-append}
+use Rattle.batch.proofs.Puts.{put_all_append, length_put_all_le, lacks_none, lacks_append, lacks_later, fresh_append}
 
 -- every record of l is below y
 abbrev Below : ℕ → List (List ℕ) → List ℕ → Type 0
@@ -31,28 +31,28 @@ Above k y (x ∷ m) = (r : List ℕ) → cmp k r y ≡ Less → cmp k r x ≡ Le
 -- ---- the records before and after the spot of y
 
 module _ (k : ℕ) (y : List ℕ) where
-  below_step : (x : List ℕ) (l : List (List ℕ)) (o : Order) (q : Spot) → cmp k y x ≡ o → Below k (take (place q) l) y → Below k (take (place (spotBy o q)) (x ∷ l)) y
+  below_step : (x : List ℕ) (l : List (List ℕ)) (o : Order) (q : Spot) → cmp k y x ≡ o → Below k (take (place q) l) y → Below k (take (place (spot_by o q)) (x ∷ l)) y
   below_step x l Less q e h = tt
   below_step x l Equal q e h = tt
-  below_step x l Greater (At i) e h = (greater-turned k y x e, h)
-  below_step x l Greater (Gap i) e h = (greater-turned k y x e, h)
+  below_step x l Greater (At i) e h = (greater_turned k y x e, h)
+  below_step x l Greater (Gap i) e h = (greater_turned k y x e, h)
 
-  below-spot : (l : List (List ℕ)) → Below k (take (place (spot k y l)) l) y
-  below-spot [] = tt
-  below-spot (x ∷ l) = below_step x l (cmp k y x) (spot k y l) refl (below-spot l)
+  below_spot : (l : List (List ℕ)) → Below k (take (place (spot k y l)) l) y
+  below_spot [] = tt
+  below_spot (x ∷ l) = below_step x l (cmp k y x) (spot k y l) refl (below_spot l)
 
-  above_step : (x : List ℕ) (l : List (List ℕ)) (o : Order) (q : Spot) → cmp k y x ≡ o → Above k y (drop (place q) l) → Above k y (drop (place (spotBy o q)) (x ∷ l))
-  above_step x l Less q e h = λ r g. cmp-trans k r y x g e
-  above_step x l Equal q e h = λ r g. sym (cmp-right k y x e r) ∙ g
+  above_step : (x : List ℕ) (l : List (List ℕ)) (o : Order) (q : Spot) → cmp k y x ≡ o → Above k y (drop (place q) l) → Above k y (drop (place (spot_by o q)) (x ∷ l))
+  above_step x l Less q e h = λ r g. cmp_trans k r y x g e
+  above_step x l Equal q e h = λ r g. sym (cmp_right k y x e r) ∙ g
   above_step x l Greater (At i) e h = h
   above_step x l Greater (Gap i) e h = h
 
-  above-spot : (l : List (List ℕ)) → Above k y (drop (place (spot k y l)) l)
-  above-spot [] = tt
-  above-spot (x ∷ l) = above_step x l (cmp k y x) (spot k y l) refl (above-spot l)
+  above_spot : (l : List (List ℕ)) → Above k y (drop (place (spot k y l)) l)
+  above_spot [] = tt
+  above_spot (x ∷ l) = above_step x l (cmp k y x) (spot k y l) refl (above_spot l)
 
   put_step : (x : List ℕ) (l : List (List ℕ)) (o : Order) (q : Spot) → cmp k y x ≡ o → put k y (drop (place q) l) ≡ y ∷ drop (past q) l
-      → put k y (drop (place (spotBy o q)) (x ∷ l)) ≡ y ∷ drop (past (spotBy o q)) (x ∷ l)
+      → put k y (drop (place (spot_by o q)) (x ∷ l)) ≡ y ∷ drop (past (spot_by o q)) (x ∷ l)
   put_step x l Less q e h = rw e
   put_step x l Equal q e h = rw e
   put_step x l Greater (At i) e h =
@@ -62,9 +62,9 @@ module _ (k : ℕ) (y : List ℕ) where
       let n : suc i + 0 ≡ suc (i + 0) = omega arith in
       rw n h
 
-  put-spot : (l : List (List ℕ)) → put k y (drop (place (spot k y l)) l) ≡ y ∷ drop (past (spot k y l)) l
-  put-spot [] = refl
-  put-spot (x ∷ l) = put_step x l (cmp k y x) (spot k y l) refl (put-spot l)
+  put_spot : (l : List (List ℕ)) → put k y (drop (place (spot k y l)) l) ≡ y ∷ drop (past (spot k y l)) l
+  put_spot [] = refl
+  put_spot (x ∷ l) = put_step x l (cmp k y x) (spot k y l) refl (put_spot l)
 
 -- ---- `put` beside records that it does not reach
 
@@ -72,7 +72,7 @@ put_in : (k : ℕ) (r x : List ℕ) (l m : List (List ℕ)) → cmp k r x ≡ Le
 put_in k r x [] m h = rw h
 put_in k r x (z ∷ l) m h = go (cmp k r z) (put_in k r x l m h)
   where
-    go : (o : Order) → put k r (l ++ x ∷ m) ≡ put k r l ++ x ∷ m → putBy o r z (l ++ x ∷ m) (put k r (l ++ x ∷ m)) ≡ putBy o r z l (put k r l) ++ x ∷ m
+    go : (o : Order) → put k r (l ++ x ∷ m) ≡ put k r l ++ x ∷ m → put_by o r z (l ++ x ∷ m) (put k r (l ++ x ∷ m)) ≡ put_by o r z l (put k r l) ++ x ∷ m
     go Less rest = refl
     go Equal rest = refl
     go Greater rest = ap (λ (q : List (List ℕ)). z ∷ q) rest
@@ -81,15 +81,15 @@ put_under : (k : ℕ) (r y : List ℕ) (l m : List (List ℕ)) → cmp k r y ≡
 put_under k r y l [] h a = rw (append-nil l, append-nil (put k r l))
 put_under k r y l (x ∷ m) h a = put_in k r x l m (a r h)
 
-putAll-under : (k : ℕ) (y : List ℕ) (rs l m : List (List ℕ)) → Below k rs y → Above k y m → put_all k rs (l ++ m) ≡ put_all k rs l ++ m
-putAll-under k y [] l m b a = refl
-putAll-under k y (r ∷ rs) l m b a = ap (put_all k rs) (put_under k r y l m b.0 a) ∙ putAll-under k y rs (put k r l) m b.1 a
+put_all_under : (k : ℕ) (y : List ℕ) (rs l m : List (List ℕ)) → Below k rs y → Above k y m → put_all k rs (l ++ m) ≡ put_all k rs l ++ m
+put_all_under k y [] l m b a = refl
+put_all_under k y (r ∷ rs) l m b a = ap (put_all k rs) (put_under k r y l m b.0 a) ∙ put_all_under k y rs (put k r l) m b.1 a
 
-put-over : (k : ℕ) (y : List ℕ) (l m : List (List ℕ)) → Below k l y → put k y (l ++ m) ≡ l ++ put k y m
-put-over k y [] m b = refl
-put-over k y (x ∷ l) m b = rw (less-turned k x y b.0, put-over k y l m b.1)
+put_over : (k : ℕ) (y : List ℕ) (l m : List (List ℕ)) → Below k l y → put k y (l ++ m) ≡ l ++ put k y m
+put_over k y [] m b = refl
+put_over k y (x ∷ l) m b = rw (less_turned k x y b.0, put_over k y l m b.1)
 
-below_by : (k : ℕ) (y r x : List ℕ) (l p : List (List ℕ)) (o : Order) → cmp k r y ≡ Less → Below k (x ∷ l) y → Below k p y → Below k (putBy o r x l p) y
+below_by : (k : ℕ) (y r x : List ℕ) (l p : List (List ℕ)) (o : Order) → cmp k r y ≡ Less → Below k (x ∷ l) y → Below k p y → Below k (put_by o r x l p) y
 below_by k y r x l p Less h b g = (h, b)
 below_by k y r x l p Equal h b g = (h, b.1)
 below_by k y r x l p Greater h b g = (b.0, g)
@@ -98,67 +98,67 @@ below_put : (k : ℕ) (y r : List ℕ) (l : List (List ℕ)) → cmp k r y ≡ L
 below_put k y r [] h b = (h, tt)
 below_put k y r (x ∷ l) h b = below_by k y r x l (put k r l) (cmp k r x) h b (below_put k y r l h b.1)
 
-below-putAll : (k : ℕ) (y : List ℕ) (rs l : List (List ℕ)) → Below k rs y → Below k l y → Below k (put_all k rs l) y
-below-putAll k y [] l b g = g
-below-putAll k y (r ∷ rs) l b g = below-putAll k y rs (put k r l) b.1 (below_put k y r l b.0 g)
+below_put_all : (k : ℕ) (y : List ℕ) (rs l : List (List ℕ)) → Below k rs y → Below k l y → Below k (put_all k rs l) y
+below_put_all k y [] l b g = g
+below_put_all k y (r ∷ rs) l b g = below_put_all k y rs (put k r l) b.1 (below_put k y r l b.0 g)
 
 -- ---- the last record of the batch
 
-pub last-in : (k : ℕ) (y : List ℕ) (rs l : List (List ℕ)) → Below k rs y
+pub last_in : (k : ℕ) (y : List ℕ) (rs l : List (List ℕ)) → Below k rs y
     → put_all k (rs ++ y ∷ []) l ≡ put_all k rs (take (place (spot k y l)) l) ++ y ∷ drop (past (spot k y l)) l
-last-in k y rs l b =
+last_in k y rs l b =
     let p : ℕ = place (spot k y l) in
-    putAll-append k rs (y ∷ []) l
+    put_all_append k rs (y ∷ []) l
     ∙ ap (λ (m : List (List ℕ)). put k y (put_all k rs m)) (sym (take-append-drop p l))
-    ∙ ap (put k y) (putAll-under k y rs (take p l) (drop p l) b (above-spot k y l))
-    ∙ put-over k y (put_all k rs (take p l)) (drop p l) (below-putAll k y rs (take p l) b (below-spot k y l))
-    ∙ ap (λ (m : List (List ℕ)). put_all k rs (take p l) ++ m) (put-spot k y l)
+    ∙ ap (put k y) (put_all_under k y rs (take p l) (drop p l) b (above_spot k y l))
+    ∙ put_over k y (put_all k rs (take p l)) (drop p l) (below_put_all k y rs (take p l) b (below_spot k y l))
+    ∙ ap (λ (m : List (List ℕ)). put_all k rs (take p l) ++ m) (put_spot k y l)
 
 first_below : (k : ℕ) (x y : List ℕ) (l : List (List ℕ)) → rises k (x ∷ (l ++ y ∷ [])) ≡ true → cmp k x y ≡ Less
-first_below k x y [] h = rises-head k x y [] h
-first_below k x y (z ∷ l) h = first_below k x y l (rises-skip k x z (l ++ y ∷ []) h)
+first_below k x y [] h = rises_head k x y [] h
+first_below k x y (z ∷ l) h = first_below k x y l (rises_skip k x z (l ++ y ∷ []) h)
 
 -- in a rising batch all others are below the last
-pub all-below : (k : ℕ) (y : List ℕ) (l : List (List ℕ)) → rises k (l ++ y ∷ []) ≡ true → Below k l y
-all-below k y [] h = tt
-all-below k y (x ∷ l) h = (first_below k x y l h, all-below k y l (rises-tail k x (l ++ y ∷ []) h))
+pub all_below : (k : ℕ) (y : List ℕ) (l : List (List ℕ)) → rises k (l ++ y ∷ []) ≡ true → Below k l y
+all_below k y [] h = tt
+all_below k y (x ∷ l) h = (first_below k x y l h, all_below k y l (rises_tail k x (l ++ y ∷ []) h))
 
 -- the numbers: of i records held, those before y are left, and of d new keys those that are not y's
-pub last-count : (k i d : ℕ) (y : List ℕ) (rs l : List (List ℕ)) → Below k rs y → rises k l ≡ true → length l ≡ i → length (put_all k (rs ++ y ∷ []) l) ≡ i + d
+pub last_count : (k i d : ℕ) (y : List ℕ) (rs l : List (List ℕ)) → Below k rs y → rises k l ≡ true → length l ≡ i → length (put_all k (rs ++ y ∷ []) l) ≡ i + d
     → (past (spot k y l) ≤ i) × (1 ≤ d + hits (spot k y l)) × (length (put_all k rs (take (place (spot k y l)) l)) ≡ place (spot k y l) + (d + hits (spot k y l) - 1))
-last-count k i d y rs l b h e c =
+last_count k i d y rs l b h e c =
     let p : ℕ = place (spot k y l) in
-    let le : past (spot k y l) ≤ length l = past-le k y l in
+    let le : past (spot k y l) ≤ length l = past_le k y l in
     let t : length (take p l) ≡ p = length-take-le p l (omega arith) in
-    let m : length (take p l) ≤ length (put_all k rs (take p l)) = length-putAll-le k rs (take p l) (rises-take k p l h) in
-    let a : length (put_all k rs (take p l) ++ y ∷ drop (past (spot k y l)) l) ≡ i + d = ap length (sym (last-in k y rs l b)) ∙ c in
+    let m : length (take p l) ≤ length (put_all k rs (take p l)) = length_put_all_le k rs (take p l) (rises_take k p l h) in
+    let a : length (put_all k rs (take p l) ++ y ∷ drop (past (spot k y l)) l) ≡ i + d = ap length (sym (last_in k y rs l b)) ∙ c in
     let s = simp (length-append, length-drop) at a in
     (omega arith, omega arith, omega arith)
 
 -- ---- the new keys, counted from the last down
 
-rises-drop : (k i : ℕ) (l : List (List ℕ)) → rises k l ≡ true → rises k (drop i l) ≡ true
-rises-drop k zero l h = h
-rises-drop k (suc i) [] h = refl
-rises-drop k (suc i) (x ∷ l) h = rises-drop k i l (rises-tail k x l h)
+rises_drop : (k i : ℕ) (l : List (List ℕ)) → rises k l ≡ true → rises k (drop i l) ≡ true
+rises_drop k zero l h = h
+rises_drop k (suc i) [] h = refl
+rises_drop k (suc i) (x ∷ l) h = rises_drop k i l (rises_tail k x l h)
 
 module _ (k : ℕ) (y : List ℕ) (l : List (List ℕ)) (h : rises k l ≡ true) where
   -- what is below y is not among the records from y's place on
-  lacks-above : (r : List ℕ) (m : List (List ℕ)) → cmp k r y ≡ Less → Above k y m → rises k m ≡ true → lacks k r m ≡ 1
-  lacks-above r [] g a u = lacks-none k r
-  lacks-above r (x ∷ m) g a u =
-      ap (lacks k r) (sym (append-nil (x ∷ m))) ∙ lacks-later k r (x ∷ m) [] (rises-cons k r x m (a r g) u) ∙ lacks-none k r
+  lacks_above : (r : List ℕ) (m : List (List ℕ)) → cmp k r y ≡ Less → Above k y m → rises k m ≡ true → lacks k r m ≡ 1
+  lacks_above r [] g a u = lacks_none k r
+  lacks_above r (x ∷ m) g a u =
+      ap (lacks k r) (sym (append-nil (x ∷ m))) ∙ lacks_later k r (x ∷ m) [] (rises_cons k r x m (a r g) u) ∙ lacks_none k r
 
-  lacks-below : (r : List ℕ) → cmp k r y ≡ Less → lacks k r l ≡ lacks k r (take (place (spot k y l)) l)
-  lacks-below r g =
+  lacks_below : (r : List ℕ) → cmp k r y ≡ Less → lacks k r l ≡ lacks k r (take (place (spot k y l)) l)
+  lacks_below r g =
       let p : ℕ = place (spot k y l) in
-      let one : lacks k r (drop p l) ≡ 1 = lacks-above r (drop p l) g (above-spot k y l) (rises-drop k p l h) in
-      ap (lacks k r) (sym (take-append-drop p l)) ∙ lacks-append k r (take p l) (drop p l) ∙ rw one (omega arith)
+      let one : lacks k r (drop p l) ≡ 1 = lacks_above r (drop p l) g (above_spot k y l) (rises_drop k p l h) in
+      ap (lacks k r) (sym (take-append-drop p l)) ∙ lacks_append k r (take p l) (drop p l) ∙ rw one (omega arith)
 
-  fresh-below : (rs : List (List ℕ)) → Below k rs y → fresh k rs l ≡ fresh k rs (take (place (spot k y l)) l)
-  fresh-below [] b = refl
-  fresh-below (r ∷ rs) b = omega (arith, lacks-below r b.0, fresh-below rs b.1)
+  fresh_below : (rs : List (List ℕ)) → Below k rs y → fresh k rs l ≡ fresh k rs (take (place (spot k y l)) l)
+  fresh_below [] b = refl
+  fresh_below (r ∷ rs) b = omega (arith, lacks_below r b.0, fresh_below rs b.1)
 
   -- of a rising batch: its last key, and the others among the records below it
-  pub fresh-last : (rs : List (List ℕ)) → rises k (rs ++ y ∷ []) ≡ true → fresh k (rs ++ y ∷ []) l ≡ lacks k y l + fresh k rs (take (place (spot k y l)) l)
-  fresh-last rs u = omega (arith, fresh-append k rs (y ∷ []) l, fresh-below rs (all-below k y rs u))
+  pub fresh_last : (rs : List (List ℕ)) → rises k (rs ++ y ∷ []) ≡ true → fresh k (rs ++ y ∷ []) l ≡ lacks k y l + fresh k rs (take (place (spot k y l)) l)
+  fresh_last rs u = omega (arith, fresh_append k rs (y ∷ []) l, fresh_below rs (all_below k y rs u))

@@ -8,36 +8,36 @@ use native.Mathlib.Nat.{mul-le-mul_right}
 use native.Mathlib.Omega.{arith}
 use lib.ListN.{length, take, drop}
 use Rattle.octets.specs.Bytes.{part, AreBytes}
-use Rattle.octets.specs.Order.{lex, isEqual}
+use Rattle.octets.specs.Order.{lex, is_equal}
 use Rattle.octets.specs.declared.Order.TheVariants.{Equal}
 use Rattle.octets.proofs.Orders as O
 use Rattle.octets.proofs.Places as P
 use Rattle.table.specs.Records.{cmp, rises, spot, place, put}
-use Rattle.table.specs.Table.{runs, Each, count_of, cap_of, recs, laid, wellOrdered, holds, fits}
+use Rattle.table.specs.Table.{runs, Each, count_of, cap_of, recs, laid, well_ordered, holds, fits}
 use Rattle.table.specs.declared.Spot.{Spot}
 use Rattle.table.specs.declared.Spot.TheVariants.{At, Gap}
-use Rattle.table.proofs.Rows.{rows-lt, rows-le, rows-sub, take_runs, runs-first, runs_last, each-runs, key-at, cap-room, fits-cap, each-recs, laid-laid, laid-self}
-use Rattle.table.proofs.Checks.{well-two, well-rises, well-room}
-use Rattle.table.proofs.Spots.{look_at, look-gap}
-use Rattle.table.proofs.Ends.{holds-true, Holds, laid-holds}
+use Rattle.table.proofs.Rows.{rows_lt, rows_le, rows_sub, take_runs, runs_first, runs_last, each_runs, key_at, cap_room, fits_cap, each_recs, laid_laid, laid_self}
+use Rattle.table.proofs.Checks.{well_two, well_rises, well_room}
+use Rattle.table.proofs.Spots.{look_at, look_gap}
+use Rattle.table.proofs.Ends.{holds_true, Holds, laid_holds}
 use Rattle.batch.specs.Batch.{put_all, gone, lacks, news, fresh}
-use Rattle.batch.proofs.Puts.{each-putAll, rises-putAll, putAll-append, lacks-cons-same, lacks-cons-other, lacks-none, lacks-append, length-putAll-take}
+use Rattle.batch.proofs.Puts.{each_put_all, rises_put_all, put_all_append, lacks_cons_same, lacks_cons_other, lacks_none, lacks_append, length_put_all_take}
 
 -- ---- `lacking_below`
 
 module _ (k : ℕ) (key : List ℕ) (l : List (List ℕ)) (i : ℕ) (o : Spot) (f : o ≡ spot k key l) where
-  pub lacks-at : o ≡ At i → (i ≡ place (spot k key l)) × (0 ≡ lacks k key l)
+  pub lacks_at : o ≡ At i → (i ≡ place (spot k key l)) × (0 ≡ lacks k key l)
   unfolding lacks
-  lacks-at e = (sym (ap place (sym f ∙ e)), sym (ap gone (look_at k key l i (sym f ∙ e))))
+  lacks_at e = (sym (ap place (sym f ∙ e)), sym (ap gone (look_at k key l i (sym f ∙ e))))
 
-  pub lacks-gap : rises k l ≡ true → o ≡ Gap i → (i ≡ place (spot k key l)) × (1 ≡ lacks k key l)
+  pub lacks_gap : rises k l ≡ true → o ≡ Gap i → (i ≡ place (spot k key l)) × (1 ≡ lacks k key l)
   unfolding lacks
-  lacks-gap h e = (sym (ap place (sym f ∙ e)), sym (ap gone (look-gap k key l i h (sym f ∙ e))))
+  lacks_gap h e = (sym (ap place (sym f ∙ e)), sym (ap gone (look_gap k key l i h (sym f ∙ e))))
 
 -- among all records
-pub lacks-all : (s k : ℕ) (t key : List ℕ) (n r : ℕ) → n ≡ count_of t → r ≡ lacks k key (runs n s 2 t) → r ≡ lacks k key (recs s t)
+pub lacks_all : (s k : ℕ) (t key : List ℕ) (n r : ℕ) → n ≡ count_of t → r ≡ lacks k key (runs n s 2 t) → r ≡ lacks k key (recs s t)
 unfolding recs
-lacks-all s k t key n r e f = f ∙ ap (λ (m : ℕ). lacks k key (runs m s 2 t)) e
+lacks_all s k t key n r e f = f ∙ ap (λ (m : ℕ). lacks k key (runs m s 2 t)) e
 
 -- ---- what is left of a batch
 
@@ -47,8 +47,8 @@ runs_none s n i from b h =
     let e : n - i ≡ 0 = omega arith in
     ap (λ (m : ℕ). runs m s from b) e
 
-pub runs-all : (s n from : ℕ) (b : List ℕ) → runs (n - 0) s from b ≡ runs n s from b
-runs-all s n from b =
+pub runs_all : (s n from : ℕ) (b : List ℕ) → runs (n - 0) s from b ≡ runs n s from b
+runs_all s n from b =
     let e : n - 0 ≡ n = omega arith in
     ap (λ (m : ℕ). runs m s from b) e
 
@@ -58,13 +58,13 @@ item s from b = P.part_slice from (from + s) s b refl
 
 -- it is within the batch
 pub item_room : (s n i from : ℕ) (b : List ℕ) → i < n → n * s ≤ length b → from ≡ i * s → from + s ≤ length b
-item_room s n i from b h l e = omega (arith, rows-lt s h)
+item_room s n i from b h l e = omega (arith, rows_lt s h)
 
 -- and so are those after it
-pub item-rest : (s n i from : ℕ) (b : List ℕ) → i < n → n * s ≤ length b → from ≡ i * s → from + s + (n - i - 1) * s ≤ length b
-item-rest s n i from b h l e =
+pub item_rest : (s n i from : ℕ) (b : List ℕ) → i < n → n * s ≤ length b → from ≡ i * s → from + s + (n - i - 1) * s ≤ length b
+item_rest s n i from b h l e =
     let q : n - i - 1 ≡ n - suc i = omega arith in
-    omega (arith, rows-sub s h, ap (λ (m : ℕ). m * s) q)
+    omega (arith, rows_sub s h, ap (λ (m : ℕ). m * s) q)
 
 pub both_small : (x y : ℕ) → x ≤ 1 → y ≤ 1 → x * y ≤ 1
 both_small x y h g = omega (arith, mul-le-mul_right y h)
@@ -72,99 +72,99 @@ both_small x y h g = omega (arith, mul-le-mul_right y h)
 -- ---- `count_fresh` and `count_new`: c is counted, F is the whole count
 
 module _ (s k n i from c F : ℕ) (b : List ℕ) (l : List (List ℕ)) where
-  pub fresh-turn : (e : ℕ) → i < n → e ≡ lacks k (part from s b) l → c + fresh k (runs (n - i) s from b) l ≡ F → c + e + fresh k (runs (n - (i + 1)) s (from + s) b) l ≡ F
-  fresh-turn e h g p = omega (arith, rw (runs-first s n i from b h) at p)
+  pub fresh_turn : (e : ℕ) → i < n → e ≡ lacks k (part from s b) l → c + fresh k (runs (n - i) s from b) l ≡ F → c + e + fresh k (runs (n - (i + 1)) s (from + s) b) l ≡ F
+  fresh_turn e h g p = omega (arith, rw (runs_first s n i from b h) at p)
 
-  pub fresh-done : n ≤ i → c + fresh k (runs (n - i) s from b) l ≡ F → c ≡ F
-  fresh-done h p = omega (arith, rw (runs_none s n i from b h) at p)
+  pub fresh_done : n ≤ i → c + fresh k (runs (n - i) s from b) l ≡ F → c ≡ F
+  fresh_done h p = omega (arith, rw (runs_none s n i from b h) at p)
 
-  pub news-turn : (x y : ℕ) → i < n → x ≡ lacks k (part from s b) l → y ≡ lacks k (part from s b) (runs (n - i - 1) s (from + s) b)
+  pub news_turn : (x y : ℕ) → i < n → x ≡ lacks k (part from s b) l → y ≡ lacks k (part from s b) (runs (n - i - 1) s (from + s) b)
       → c + news k (runs (n - i) s from b) l ≡ F → c + x * y + news k (runs (n - (i + 1)) s (from + s) b) l ≡ F
-  news-turn x y h ex ey p =
+  news_turn x y h ex ey p =
       let m : n - i - 1 ≡ n - (i + 1) = omega arith in
-      let q = rw (runs-first s n i from b h) at p in
-      let z : lacks k (part from s b) (runs (n - (i + 1)) s (from + s) b ++ l) ≡ y * x = lacks-append k (part from s b) (runs (n - (i + 1)) s (from + s) b) l ∙ rw (ex, ey, m) in
+      let q = rw (runs_first s n i from b h) at p in
+      let z : lacks k (part from s b) (runs (n - (i + 1)) s (from + s) b ++ l) ≡ y * x = lacks_append k (part from s b) (runs (n - (i + 1)) s (from + s) b) l ∙ rw (ex, ey, m) in
       omega (arith, z, q)
 
-  pub news-done : n ≤ i → c + news k (runs (n - i) s from b) l ≡ F → c ≡ F
-  news-done h p = omega (arith, rw (runs_none s n i from b h) at p)
+  pub news_done : n ≤ i → c + news k (runs (n - i) s from b) l ≡ F → c ≡ F
+  news_done h p = omega (arith, rw (runs_none s n i from b h) at p)
 
 -- ---- `lacking_later`: the key stands at `from`, the next record at `a`
 
 module _ (s k n i from a : ℕ) (b : List ℕ) where
-  module _ (h : k ≤ s) (l : i < n) (r : Bool) (e : r ≡ isEqual (lex (part from k b) (part a k b))) where
-    here : r ≡ isEqual (cmp k (part from s b) (part a s b))
-    here = e ∙ sym (ap₂ (λ (x y : List ℕ). isEqual (lex x y)) (key-at s k from b h) (key-at s k a b h))
+  module _ (h : k ≤ s) (l : i < n) (r : Bool) (e : r ≡ is_equal (lex (part from k b) (part a k b))) where
+    here : r ≡ is_equal (cmp k (part from s b) (part a s b))
+    here = e ∙ sym (ap₂ (λ (x y : List ℕ). is_equal (lex x y)) (key_at s k from b h) (key_at s k a b h))
 
     pub later_same : r ≡ true → (z : ℕ) → lacks k (part from s b) (runs (n - i) s a b) ≡ z → 0 ≡ z
     later_same f z g =
-        sym (ap (lacks k (part from s b)) (runs-first s n i a b l)
-        ∙ lacks-cons-same k (part from s b) (part a s b) (runs (n - (i + 1)) s (a + s) b) (O.isEqual-true (cmp k (part from s b) (part a s b)) (sym here ∙ f)))
+        sym (ap (lacks k (part from s b)) (runs_first s n i a b l)
+        ∙ lacks_cons_same k (part from s b) (part a s b) (runs (n - (i + 1)) s (a + s) b) (O.is_equal_true (cmp k (part from s b) (part a s b)) (sym here ∙ f)))
         ∙ g
 
-    pub later-other : r ≡ false → (z : ℕ) → lacks k (part from s b) (runs (n - i) s a b) ≡ z → lacks k (part from s b) (runs (n - (i + 1)) s (a + s) b) ≡ z
-    later-other f z g =
+    pub later_other : r ≡ false → (z : ℕ) → lacks k (part from s b) (runs (n - i) s a b) ≡ z → lacks k (part from s b) (runs (n - (i + 1)) s (a + s) b) ≡ z
+    later_other f z g =
         let d : cmp k (part from s b) (part a s b) ≡ Equal → ⊥ =
-        λ q. let t : r ≡ true = here ∙ ap isEqual q in let w : ◌≡◌ {A = ℕ} 0 1 = cc in omega arith in
-        sym (ap (lacks k (part from s b)) (runs-first s n i a b l)
-        ∙ lacks-cons-other k (part from s b) (part a s b) (runs (n - (i + 1)) s (a + s) b) d)
+        λ q. let t : r ≡ true = here ∙ ap is_equal q in let w : ◌≡◌ {A = ℕ} 0 1 = cc in omega arith in
+        sym (ap (lacks k (part from s b)) (runs_first s n i a b l)
+        ∙ lacks_cons_other k (part from s b) (part a s b) (runs (n - (i + 1)) s (a + s) b) d)
         ∙ g
 
-  pub later-done : n ≤ i → (z : ℕ) → lacks k (part from s b) (runs (n - i) s a b) ≡ z → 1 ≡ z
-  later-done h z g = sym (ap (lacks k (part from s b)) (runs_none s n i a b h) ∙ lacks-none k (part from s b)) ∙ g
+  pub later_done : n ≤ i → (z : ℕ) → lacks k (part from s b) (runs (n - i) s a b) ≡ z → 1 ≡ z
+  later_done h z g = sym (ap (lacks k (part from s b)) (runs_none s n i a b h) ∙ lacks_none k (part from s b)) ∙ g
 
 -- ---- `put_all`
 
 -- the room depends on the length alone
-holds-size : (s n : ℕ) (t u : List ℕ) → length t ≡ length u → holds s n t ≡ holds s n u
+holds_size : (s n : ℕ) (t u : List ℕ) → length t ≡ length u → holds s n t ≡ holds s n u
 unfolding holds cap_of
-holds-size s n t u e = rw e
+holds_size s n t u e = rw e
 
-module _ (s k n : ℕ) (b t₀ : List ℕ) (p : 0 < s) (lb : n * s ≤ length b) (w : wellOrdered s k t₀ ≡ true) (f : fits s (put_all k (runs n s 0 b) (recs s t₀)) t₀ ≡ true) where
+module _ (s k n : ℕ) (b t₀ : List ℕ) (p : 0 < s) (lb : n * s ≤ length b) (w : well_ordered s k t₀ ≡ true) (f : fits s (put_all k (runs n s 0 b) (recs s t₀)) t₀ ≡ true) where
   -- the records after the first i puts
   abbrev after : ℕ → List (List ℕ)
   after i = put_all k (runs i s 0 b) (recs s t₀)
 
   pub puts_none : AreBytes t₀ → t₀ ≡ laid (after 0) t₀
   unfolding runs
-  puts_none by = sym (laid-self s t₀ by (well-room s k t₀ p w))
+  puts_none by = sym (laid_self s t₀ by (well_room s k t₀ p w))
 
   module _ (i : ℕ) (h : i ≤ n) where
     each_after : Each s (after i)
     each_after =
-        each-putAll s k (runs i s 0 b) (recs s t₀) (each-runs s i 0 b (omega (arith, rows-le s h))) (each-recs s t₀ (well-room s k t₀ p w))
+        each_put_all s k (runs i s 0 b) (recs s t₀) (each_runs s i 0 b (omega (arith, rows_le s h))) (each_recs s t₀ (well_room s k t₀ p w))
 
     fits_after : fits s (after i) t₀ ≡ true
     fits_after =
-        let g : length (put_all k (take i (runs n s 0 b)) (recs s t₀)) ≤ length (after n) = length-putAll-take k i (runs n s 0 b) (recs s t₀) (well-rises s k t₀ w) in
+        let g : length (put_all k (take i (runs n s 0 b)) (recs s t₀)) ≤ length (after n) = length_put_all_take k i (runs n s 0 b) (recs s t₀) (well_rises s k t₀ w) in
         let e : length (after i) ≤ length (after n) = subst (λ (rs : List (List ℕ)). length (put_all k rs (recs s t₀)) ≤ length (after n)) (take_runs s n 0 b i h) g in
-        holds-true s (length (after i)) t₀ (omega (arith, fits-cap s (length (after n)) t₀ f))
+        holds_true s (length (after i)) t₀ (omega (arith, fits_cap s (length (after n)) t₀ f))
 
-    pub puts-hold : (t : List ℕ) → t ≡ laid (after i) t₀ → Holds s k (after i) t₀ t
-    puts-hold t e =
-        rw e (laid-holds s k (after i) t₀ p (well-two s k t₀ w) each_after fits_after (rises-putAll k (runs i s 0 b) (recs s t₀) (well-rises s k t₀ w)))
+    pub puts_hold : (t : List ℕ) → t ≡ laid (after i) t₀ → Holds s k (after i) t₀ t
+    puts_hold t e =
+        rw e (laid_holds s k (after i) t₀ p (well_two s k t₀ w) each_after fits_after (rises_put_all k (runs i s 0 b) (recs s t₀) (well_rises s k t₀ w)))
 
   module _ (i : ℕ) (h : i < n) (from : ℕ) (ef : from ≡ i * s) (t : List ℕ) (e : t ≡ laid (after i) t₀) where
-    next-is : put k (part from s b) (recs s t) ≡ after (i + 1)
-    next-is =
+    next_is : put k (part from s b) (recs s t) ≡ after (i + 1)
+    next_is =
         let z : 0 + i * s ≡ from = omega arith in
-        ap (put k (part from s b)) (puts-hold i (omega arith) t e).rows
+        ap (put k (part from s b)) (puts_hold i (omega arith) t e).rows
         ∙ sym (ap (λ (rs : List (List ℕ)). put_all k rs (recs s t₀)) (runs_last s i 0 b ∙ ap (λ (m : ℕ). runs i s 0 b ++ part m s b ∷ []) z)
-        ∙ putAll-append k (runs i s 0 b) (part from s b ∷ []) (recs s t₀))
+        ∙ put_all_append k (runs i s 0 b) (part from s b ∷ []) (recs s t₀))
 
-    pub puts-fit : fits s (put k (part from s b) (recs s t)) t ≡ true
-    puts-fit =
-        ap (λ (rs : List (List ℕ)). fits s rs t) next-is
-        ∙ holds-size s (length (after (i + 1))) t t₀ (puts-hold i (omega arith) t e).size
+    pub puts_fit : fits s (put k (part from s b) (recs s t)) t ≡ true
+    puts_fit =
+        ap (λ (rs : List (List ℕ)). fits s rs t) next_is
+        ∙ holds_size s (length (after (i + 1))) t t₀ (puts_hold i (omega arith) t e).size
         ∙ fits_after (i + 1) (omega arith)
 
-    pub puts-turn : (u : List ℕ) → u ≡ laid (put k (part from s b) (recs s t)) t → u ≡ laid (after (i + 1)) t₀
-    puts-turn u g =
-        let c : 2 + length (after (i + 1)) * s ≤ length t₀ = cap-room s (length (after (i + 1))) t₀ p (well-two s k t₀ w) (fits-cap s (length (after (i + 1))) t₀ (fits_after (i + 1) (omega arith))) in
+    pub puts_turn : (u : List ℕ) → u ≡ laid (put k (part from s b) (recs s t)) t → u ≡ laid (after (i + 1)) t₀
+    puts_turn u g =
+        let c : 2 + length (after (i + 1)) * s ≤ length t₀ = cap_room s (length (after (i + 1))) t₀ p (well_two s k t₀ w) (fits_cap s (length (after (i + 1))) t₀ (fits_after (i + 1) (omega arith))) in
         let le : length (after i) ≤ length (after (i + 1)) =
         subst (λ (rs : List (List ℕ)). length (put_all k rs (recs s t₀)) ≤ length (after (i + 1))) (take_runs s (i + 1) 0 b i (omega arith))
-        (length-putAll-take k i (runs (i + 1) s 0 b) (recs s t₀) (well-rises s k t₀ w)) in
+        (length_put_all_take k i (runs (i + 1) s 0 b) (recs s t₀) (well_rises s k t₀ w)) in
         g
-        ∙ ap (λ (rs : List (List ℕ)). laid rs t) next-is
+        ∙ ap (λ (rs : List (List ℕ)). laid rs t) next_is
         ∙ ap (laid (after (i + 1))) e
-        ∙ laid-laid s (after i) (after (i + 1)) t₀ (each_after i (omega arith)) (each_after (i + 1) (omega arith)) le c
+        ∙ laid_laid s (after i) (after (i + 1)) t₀ (each_after i (omega arith)) (each_after (i + 1) (omega arith)) le c

@@ -3,7 +3,7 @@ ghost use Rattle.std.specs.Prelude.{◌≡◌, true, ◌+◌, ◌-◌, ◌*◌, 
 ghost use Rattle.octets.specs.Bytes.{part};
 ghost use Rattle.octets.specs.Bytes as B;
 ghost use Rattle.table.specs.Records.{rises, spot, place, hits};
-ghost use Rattle.table.specs.Table.{runs, count_of, recs, laid, wellOrdered, fits};
+ghost use Rattle.table.specs.Table.{runs, count_of, recs, laid, well_ordered, fits};
 ghost use Rattle.batch.specs.Batch.{put_all, lacks, news, fresh, lifted, Merged};
 
 // What a count from the back knows of a key: how many records stand before its place, and 1 where none has the key, else 0.
@@ -34,7 +34,7 @@ pub fn lacking_below(t: &[u8], stride: usize, klen: usize, held: usize, key: &[u
 // 1 where no record of t has that key, else 0.
 pub fn lacking(t: &[u8], stride: usize, klen: usize, key: &[u8]) -> usize
     requires stride_nonzero { (0 < stride) × (klen ≤ stride) × (klen ≤ length key.now) }
-    requires t_value { wellOrdered stride klen t.now ≡ true }
+    requires t_value { well_ordered stride klen t.now ≡ true }
     ensures { (result ≡ lacks klen key.now (recs stride t.now)) × (result ≤ 1) }
 {
     lacking_below(t, stride, klen, table::count(t), key).lacking
@@ -43,7 +43,7 @@ pub fn lacking(t: &[u8], stride: usize, klen: usize, key: &[u8]) -> usize
 // How many of the n records of a batch have a key that is not in t; of a rising batch, its distinct new keys.
 pub fn count_fresh(t: &[u8], stride: usize, klen: usize, batch: &[u8], n: usize) -> usize
     requires stride_nonzero { (0 < stride) × (klen ≤ stride) × (n * stride ≤ length batch.now) }
-    requires t_value { wellOrdered stride klen t.now ≡ true }
+    requires t_value { well_ordered stride klen t.now ≡ true }
     ensures { (result ≡ fresh klen (runs n stride 0 batch.now) (recs stride t.now)) × (result ≤ n) }
 {
     let mut c: usize = 0;
@@ -85,7 +85,7 @@ fn lacking_later(
 // How many distinct keys of the n records of a batch are not in t, in any order and with repeats.
 pub fn count_new(t: &[u8], stride: usize, klen: usize, batch: &[u8], n: usize) -> usize
     requires stride_nonzero { (0 < stride) × (klen ≤ stride) × (n * stride ≤ length batch.now) }
-    requires t_value { wellOrdered stride klen t.now ≡ true }
+    requires t_value { well_ordered stride klen t.now ≡ true }
     ensures { (result ≡ news klen (runs n stride 0 batch.now) (recs stride t.now)) × (result ≤ n) }
 {
     let mut c: usize = 0;
@@ -105,7 +105,7 @@ pub fn count_new(t: &[u8], stride: usize, klen: usize, batch: &[u8], n: usize) -
 // Each of the n records of a batch put in, one by one, in any order and with repeats.
 pub fn put_all(t: &mut [u8], stride: usize, klen: usize, batch: &[u8], n: usize)
     requires stride_nonzero { (0 < stride) × (klen ≤ stride) × (n * stride ≤ length batch.now) }
-    requires t_value { wellOrdered stride klen t.old ≡ true }
+    requires t_value { well_ordered stride klen t.old ≡ true }
     requires t_value_2 { fits stride (put_all klen (runs n stride 0 batch.now) (recs stride t.old)) t.old ≡ true }
     ensures { t.new ≡ laid (put_all klen (runs n stride 0 batch.now) (recs stride t.old)) t.old }
 {
@@ -178,7 +178,7 @@ pub fn merge_next(
 // The n records of a rising batch put in by one merge from the back; c of their keys are new.
 pub fn merge(t: &mut [u8], stride: usize, klen: usize, batch: &[u8], n: usize, c: usize)
     requires stride_nonzero { (0 < stride) × (klen ≤ stride) × (n * stride ≤ length batch.now) }
-    requires t_value { wellOrdered stride klen t.old ≡ true }
+    requires t_value { well_ordered stride klen t.old ≡ true }
     requires batch_value { rises klen (runs n stride 0 batch.now) ≡ true }
     requires c_value { c ≡ fresh klen (runs n stride 0 batch.now) (recs stride t.old) }
     requires t_value_2 { fits stride (put_all klen (runs n stride 0 batch.now) (recs stride t.old)) t.old ≡ true }

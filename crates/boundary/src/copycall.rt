@@ -1,6 +1,6 @@
 // Volumes made from commits that are stored.
 ghost use Rattle.std.specs.Prelude.{◌≡◌, length};
-ghost use Rattle.copycalls.specs.Making.{ids, snapshotOn, logrefOn, Leaves};
+ghost use Rattle.copycalls.specs.Making.{ids, snapshot_on, logref_on, Leaves};
 
 use arguments::Reply;
 
@@ -17,7 +17,7 @@ pub extern "C" fn sigatuda_volume_from_snapshot(
     remote: &[u8; 16],
     out: &mut [u8],
 ) -> Reply
-    ensures { Leaves volumes.old commits.old checkpoints.old index.old out.old (snapshotOn volumes.old commits.old checkpoints.old index.old snapshot.now (ids vid.now local.now remote.now) (length out.old)) result volumes.new commits.new checkpoints.new index.new out.new }
+    ensures { Leaves volumes.old commits.old checkpoints.old index.old out.old (snapshot_on volumes.old commits.old checkpoints.old index.old snapshot.now (ids vid.now local.now remote.now) (length out.old)) result volumes.new commits.new checkpoints.new index.new out.new }
 {
     let volume = *vid;
     let here = *local;
@@ -49,7 +49,7 @@ pub extern "C" fn sigatuda_volume_from_logref(
     remote: &[u8; 16],
     out: &mut [u8],
 ) -> Reply
-    ensures { Leaves volumes.old commits.old checkpoints.old index.old out.old (logrefOn volumes.old commits.old checkpoints.old index.old log.now lsn (ids vid.now local.now remote.now) (length out.old)) result volumes.new commits.new checkpoints.new index.new out.new }
+    ensures { Leaves volumes.old commits.old checkpoints.old index.old out.old (logref_on volumes.old commits.old checkpoints.old index.old log.now lsn (ids vid.now local.now remote.now) (length out.old)) result volumes.new commits.new checkpoints.new index.new out.new }
 {
     let named = *log;
     let volume = *vid;

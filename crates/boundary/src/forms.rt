@@ -1,7 +1,7 @@
 // What an integrator asks before the first call: the number of this byte format, the size of each table's records and of each result list's entries, and the
 // bytes of a table with room for so many records.
 ghost use Rattle.std.specs.Prelude.{◌≡◌};
-ghost use Rattle.boundary.specs.Formats.{recordSize, entrySize, tableBytes};
+ghost use Rattle.boundary.specs.Formats.{record_size, entry_size, table_bytes};
 
 // The number of the byte format.
 #[unsafe(no_mangle)]
@@ -14,7 +14,7 @@ pub extern "C" fn sigatuda_format() -> u32
 // The size of a table's records, in bytes: volumes, tags, commits, checkpoints, index, presence are tables 0 to 5; 0 for any other.
 #[unsafe(no_mangle)]
 pub extern "C" fn sigatuda_record_size(table: u32) -> u32
-    ensures { result ≡ recordSize table }
+    ensures { result ≡ record_size table }
 {
     match table {
         0 => layout::VOLUME as u32,
@@ -31,7 +31,7 @@ pub extern "C" fn sigatuda_record_size(table: u32) -> u32
 // any other.
 #[unsafe(no_mangle)]
 pub extern "C" fn sigatuda_entry_size(list: u32) -> u32
-    ensures { result ≡ entrySize list }
+    ensures { result ≡ entry_size list }
 {
     match list {
         0 => layout::VOLUME as u32,
@@ -48,7 +48,7 @@ pub extern "C" fn sigatuda_entry_size(list: u32) -> u32
 // The bytes of a table with room for so many records: two of count, then the records; 0 for a table that there is not, and above 65,535 records.
 #[unsafe(no_mangle)]
 pub extern "C" fn sigatuda_table_bytes(table: u32, records: u32) -> u32
-    ensures { result ≡ tableBytes table records }
+    ensures { result ≡ table_bytes table records }
 {
     let size = sigatuda_record_size(table);
     if size == 0 {

@@ -1,21 +1,21 @@
 // Lists into lent bytes: entries from the start of `list` on, and their number in `items`. A list that is too short is 19, and stays as found.
 ghost use Rattle.std.specs.Prelude.{◌≡◌};
-ghost use Rattle.rules.specs.Reads.{volumeList, tagList, storedLsns};
-ghost use Rattle.rules.specs.Walk.{snapshotCommits};
+ghost use Rattle.rules.specs.Reads.{volume_list, tag_list, stored_lsns};
+ghost use Rattle.rules.specs.Walk.{snapshot_commits};
 ghost use Rattle.layout.specs.Codecs.{number};
-ghost use Rattle.layout.specs.Records.{volumeBytes, tagBytes, commitBytes};
-ghost use Rattle.layout.specs.Tables.{volumesIn, volumesOk, tagsIn, tagsOk, commitsIn, commitsOk};
+ghost use Rattle.layout.specs.Records.{volume_bytes, tag_bytes, commit_bytes};
+ghost use Rattle.layout.specs.Tables.{volumes_in, volumes_ok, tags_in, tags_ok, commits_in, commits_ok};
 ghost use Rattle.layout.specs.Lent.{lent};
-ghost use Rattle.resultlists.specs.Lists.{slotsIn, listLeft};
-ghost use Rattle.resultlists.specs.Snapshots.{onSnapshot};
+ghost use Rattle.resultlists.specs.Lists.{slots_in, list_left};
+ghost use Rattle.resultlists.specs.Snapshots.{on_snapshot};
 
 use arguments::Reply;
-use core::lsn::Lsn;
+use basics::lsn::Lsn;
 
 // The volumes, in key order, 117 bytes each: 20, 19.
 #[unsafe(no_mangle)]
 pub extern "C" fn sigatuda_volume_list(volumes: &[u8], list: &mut [u8], items: &mut u32) -> Reply
-    ensures { (result, (list.new, items.new)) ≡ listLeft volumeBytes list.old items.old (lent (volumesOk volumes.now) (volumeList (volumesIn volumes.now) (slotsIn volumeBytes list.old))) }
+    ensures { (result, (list.new, items.new)) ≡ list_left volume_bytes list.old items.old (lent (volumes_ok volumes.now) (volume_list (volumes_in volumes.now) (slots_in volume_bytes list.old))) }
 {
     listcalls::volume_list(volumes, list, items)
 }
@@ -23,7 +23,7 @@ pub extern "C" fn sigatuda_volume_list(volumes: &[u8], list: &mut [u8], items: &
 // The tags, in key order, 50 bytes each: 20, 19.
 #[unsafe(no_mangle)]
 pub extern "C" fn sigatuda_tag_list(tags: &[u8], list: &mut [u8], items: &mut u32) -> Reply
-    ensures { (result, (list.new, items.new)) ≡ listLeft tagBytes list.old items.old (lent (tagsOk tags.now) (tagList (tagsIn tags.now) (slotsIn tagBytes list.old))) }
+    ensures { (result, (list.new, items.new)) ≡ list_left tag_bytes list.old items.old (lent (tags_ok tags.now) (tag_list (tags_in tags.now) (slots_in tag_bytes list.old))) }
 {
     listcalls::tag_list(tags, list, items)
 }
@@ -38,7 +38,7 @@ pub extern "C" fn sigatuda_stored_lsns(
     list: &mut [u8],
     items: &mut u32,
 ) -> Reply
-    ensures { (result, (list.new, items.new)) ≡ listLeft (number 8) list.old items.old (lent (commitsOk commits.now) (storedLsns (commitsIn commits.now) (slotsIn (number 8) list.old) (record { log = log.entry.now; start = start; end = end }))) }
+    ensures { (result, (list.new, items.new)) ≡ list_left (number 8) list.old items.old (lent (commits_ok commits.now) (stored_lsns (commits_in commits.now) (slots_in (number 8) list.old) (record { log = log.entry.now; start = start; end = end }))) }
 {
     let id = *log;
     listcalls::stored_lsns(commits, id, Lsn(start), Lsn(end), list, items)
@@ -52,7 +52,7 @@ pub extern "C" fn sigatuda_snapshot_commits(
     list: &mut [u8],
     items: &mut u32,
 ) -> Reply
-    ensures { (result, (list.new, items.new)) ≡ listLeft commitBytes list.old items.old (lent (commitsOk commits.now) (onSnapshot snapshot.now (snapshotCommits (commitsIn commits.now) (slotsIn commitBytes list.old)))) }
+    ensures { (result, (list.new, items.new)) ≡ list_left commit_bytes list.old items.old (lent (commits_ok commits.now) (on_snapshot snapshot.now (snapshot_commits (commits_in commits.now) (slots_in commit_bytes list.old)))) }
 {
     listcalls::snapshot_commits(commits, snapshot, list, items)
 }

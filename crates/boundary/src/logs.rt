@@ -1,23 +1,23 @@
 // What changed in a log, and snapshots.
 ghost use Rattle.std.specs.Prelude.{◌≡◌};
 ghost use Rattle.rules.specs.Sync.{changes as changesRule};
-ghost use Rattle.rules.specs.Arguments.{snapshotNew};
-ghost use Rattle.volume.specs.Snapshots.{rangeSays};
-ghost use Rattle.volume.specs.Volumes.{maybeLsnSays};
-ghost use Rattle.arguments.specs.Snapshots.{snapshotLeft, appendIn, headIn};
-ghost use Rattle.arguments.specs.Replies.{valueOr};
+ghost use Rattle.rules.specs.Arguments.{snapshot_new};
+ghost use Rattle.volume.specs.Snapshots.{range_says};
+ghost use Rattle.volume.specs.Volumes.{maybe_lsn_says};
+ghost use Rattle.arguments.specs.Snapshots.{snapshot_left, append_in, head_in};
+ghost use Rattle.arguments.specs.Replies.{value_or};
 ghost use Rattle.boundary.specs.Flags.{flagged};
 
 use arguments::snapshots::{or_three, put_head, put_snapshot, snapshot_arg, snapshot_ok};
 use arguments::{Reply, replies};
-use core::lsn::Lsn;
-use core::page_count::PageCount;
+use basics::lsn::Lsn;
+use basics::page_count::PageCount;
 use volume::snapshot::{LogRange, Snapshot};
 use volume::volume::{MaybeLsn, changes};
 
 // An LSN that is missing where its flag is 0.
 fn flagged_lsn(flag: u32, lsn: u64) -> MaybeLsn
-    ensures { maybeLsnSays result ≡ flagged flag lsn }
+    ensures { maybe_lsn_says result ≡ flagged flag lsn }
 {
     if flag == 0 {
         return MaybeLsn::Missing;
@@ -35,7 +35,7 @@ pub extern "C" fn sigatuda_changes(
     start: &mut u64,
     end: &mut u64,
 ) -> Reply
-    ensures { (result, (start.new, end.new)) ≡ valueOr (λ m. m) (start.old, end.old) (changesRule (flagged has_base base) (flagged has_head head)) }
+    ensures { (result, (start.new, end.new)) ≡ value_or (λ m. m) (start.old, end.old) (changesRule (flagged has_base base) (flagged has_head head)) }
 {
     replies::put_changes(
         changes(flagged_lsn(has_base, base), flagged_lsn(has_head, head)),
@@ -46,7 +46,7 @@ pub extern "C" fn sigatuda_changes(
 
 // A range of a log.
 fn log_range(log: &[u8; 16], start: u64, end: u64) -> LogRange
-    ensures { rangeSays result ≡ record { log = log.entry.now; start = start; end = end } }
+    ensures { range_says result ≡ record { log = log.entry.now; start = start; end = end } }
 {
     let id = *log;
     LogRange {
@@ -65,7 +65,7 @@ pub extern "C" fn sigatuda_snapshot_new(
     count: u32,
     out: &mut [u8],
 ) -> Reply
-    ensures { (result, out.new) ≡ snapshotLeft out.old (snapshotNew (record { log = log.entry.now; start = start; end = end }) count) }
+    ensures { (result, out.new) ≡ snapshot_left out.old (snapshot_new (record { log = log.entry.now; start = start; end = end }) count) }
 {
     put_snapshot(
         Snapshot::new(log_range(log, start, end), PageCount(count)),
@@ -82,7 +82,7 @@ pub extern "C" fn sigatuda_snapshot_append(
     end: u64,
     out: &mut [u8],
 ) -> Reply
-    ensures { (result, out.new) ≡ snapshotLeft out.old (appendIn snapshot.now (record { log = log.entry.now; start = start; end = end })) }
+    ensures { (result, out.new) ≡ snapshot_left out.old (append_in snapshot.now (record { log = log.entry.now; start = start; end = end })) }
 {
     let a = snapshot_arg(snapshot).append(log_range(log, start, end));
     if !snapshot_ok(snapshot) {
@@ -98,7 +98,7 @@ pub extern "C" fn sigatuda_snapshot_head(
     log: &mut [u8; 16],
     lsn: &mut u64,
 ) -> Reply
-    ensures { (result, (log.new, lsn.new)) ≡ valueOr (λ h. h) (log.old, lsn.old) (headIn snapshot.now) }
+    ensures { (result, (log.new, lsn.new)) ≡ value_or (λ h. h) (log.old, lsn.old) (head_in snapshot.now) }
 {
     let s = snapshot_arg(snapshot);
     if !s.has_lsns() {

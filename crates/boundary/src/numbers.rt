@@ -1,18 +1,18 @@
 // LSNs, page numbers and page counts: what stands before and after each.
 ghost use Rattle.std.specs.Prelude.{◌≡◌};
-ghost use Rattle.std.specs.Answers.{done};
-ghost use Rattle.std.specs.Int.{nextLsn, prevLsn, nextLsnOrLast, prevLsnOrFirst, nextPage, prevPage, nextCount, prevCount, endPage};
-ghost use Rattle.arguments.specs.Replies.{value, valueOr};
+ghost use Rattle.basics.specs.Answers.{done};
+ghost use Rattle.basics.specs.Numbers.{next_lsn, prev_lsn, next_lsn_or_last, prev_lsn_or_first, next_page, prev_page, next_count, prev_count, end_page};
+ghost use Rattle.arguments.specs.Replies.{value, value_or};
 
 use arguments::{Reply, replies};
-use core::lsn::Lsn;
-use core::page_count::PageCount;
-use core::pageidx::PageIdx;
+use basics::lsn::Lsn;
+use basics::page_count::PageCount;
+use basics::pageidx::PageIdx;
 
 // The LSN after n: 1, 18.
 #[unsafe(no_mangle)]
 pub extern "C" fn sigatuda_lsn_next(n: u64, out: &mut u64) -> Reply
-    ensures { (result, out.new) ≡ value (λ m. m) out.old (nextLsn n) }
+    ensures { (result, out.new) ≡ value (λ m. m) out.old (next_lsn n) }
 {
     replies::put_lsn(Lsn(n).next(), out)
 }
@@ -20,7 +20,7 @@ pub extern "C" fn sigatuda_lsn_next(n: u64, out: &mut u64) -> Reply
 // The LSN before n, or nothing before the first: 1.
 #[unsafe(no_mangle)]
 pub extern "C" fn sigatuda_lsn_prev(n: u64, out: &mut u64) -> Reply
-    ensures { (result, out.new) ≡ valueOr (λ m. m) out.old (prevLsn n) }
+    ensures { (result, out.new) ≡ value_or (λ m. m) out.old (prev_lsn n) }
 {
     replies::put_maybe_lsn(Lsn(n).checked_prev(), out)
 }
@@ -28,7 +28,7 @@ pub extern "C" fn sigatuda_lsn_prev(n: u64, out: &mut u64) -> Reply
 // The LSN after n, and the last after itself: 1.
 #[unsafe(no_mangle)]
 pub extern "C" fn sigatuda_lsn_saturating_next(n: u64, out: &mut u64) -> Reply
-    ensures { (result, out.new) ≡ value (λ m. m) out.old (nextLsnOrLast n) }
+    ensures { (result, out.new) ≡ value (λ m. m) out.old (next_lsn_or_last n) }
 {
     replies::put_lsn(Lsn(n).saturating_next(), out)
 }
@@ -36,7 +36,7 @@ pub extern "C" fn sigatuda_lsn_saturating_next(n: u64, out: &mut u64) -> Reply
 // The LSN before n, and the first before itself: 1.
 #[unsafe(no_mangle)]
 pub extern "C" fn sigatuda_lsn_saturating_prev(n: u64, out: &mut u64) -> Reply
-    ensures { (result, out.new) ≡ value (λ m. m) out.old (prevLsnOrFirst n) }
+    ensures { (result, out.new) ≡ value (λ m. m) out.old (prev_lsn_or_first n) }
 {
     replies::put_lsn(Lsn(n).saturating_prev(), out)
 }
@@ -44,7 +44,7 @@ pub extern "C" fn sigatuda_lsn_saturating_prev(n: u64, out: &mut u64) -> Reply
 // The page after p, and the last after itself: 1.
 #[unsafe(no_mangle)]
 pub extern "C" fn sigatuda_page_next(p: u32, out: &mut u32) -> Reply
-    ensures { (result, out.new) ≡ value (λ m. m) out.old (nextPage p) }
+    ensures { (result, out.new) ≡ value (λ m. m) out.old (next_page p) }
 {
     replies::put_page(PageIdx(p).saturating_next(), out)
 }
@@ -52,7 +52,7 @@ pub extern "C" fn sigatuda_page_next(p: u32, out: &mut u32) -> Reply
 // The page before p, and the first before itself: 1.
 #[unsafe(no_mangle)]
 pub extern "C" fn sigatuda_page_prev(p: u32, out: &mut u32) -> Reply
-    ensures { (result, out.new) ≡ value (λ m. m) out.old (prevPage p) }
+    ensures { (result, out.new) ≡ value (λ m. m) out.old (prev_page p) }
 {
     replies::put_page(PageIdx(p).saturating_prev(), out)
 }
@@ -60,7 +60,7 @@ pub extern "C" fn sigatuda_page_prev(p: u32, out: &mut u32) -> Reply
 // One page more, and the highest count after itself.
 #[unsafe(no_mangle)]
 pub extern "C" fn sigatuda_count_next(n: u32, out: &mut u32) -> Reply
-    ensures { (result, out.new) ≡ value (λ m. m) out.old (done (nextCount n)) }
+    ensures { (result, out.new) ≡ value (λ m. m) out.old (done (next_count n)) }
 {
     *out = PageCount(n).saturating_incr().0;
     Reply { code: 0, found: 1 }
@@ -69,7 +69,7 @@ pub extern "C" fn sigatuda_count_next(n: u32, out: &mut u32) -> Reply
 // One page less, and no page after none.
 #[unsafe(no_mangle)]
 pub extern "C" fn sigatuda_count_prev(n: u32, out: &mut u32) -> Reply
-    ensures { (result, out.new) ≡ value (λ m. m) out.old (done (prevCount n)) }
+    ensures { (result, out.new) ≡ value (λ m. m) out.old (done (prev_count n)) }
 {
     *out = PageCount(n).saturating_decr().0;
     Reply { code: 0, found: 1 }
@@ -78,7 +78,7 @@ pub extern "C" fn sigatuda_count_prev(n: u32, out: &mut u32) -> Reply
 // The last of n pages, or nothing where there is none.
 #[unsafe(no_mangle)]
 pub extern "C" fn sigatuda_count_last_page(n: u32, out: &mut u32) -> Reply
-    ensures { (result, out.new) ≡ valueOr (λ m. m) out.old (done (endPage n)) }
+    ensures { (result, out.new) ≡ value_or (λ m. m) out.old (done (end_page n)) }
 {
     replies::put_maybe_page(PageCount(n).last_pageidx(), out)
 }

@@ -1,20 +1,20 @@
 // The calls on present pages: whether a page is, mark one, remove one, remove a range.
 ghost use Rattle.std.specs.Prelude.{◌≡◌};
-ghost use Rattle.std.specs.Answers.{code};
-ghost use Rattle.rules.specs.Reads.{pagePresent, pageMark, pageRemove, pagesRemove};
-ghost use Rattle.layout.specs.Records.{presentBytes};
-ghost use Rattle.layout.specs.Tables.{presenceIn, presenceOk};
+ghost use Rattle.basics.specs.Answers.{code};
+ghost use Rattle.rules.specs.Reads.{page_present, page_mark, page_remove, pages_remove};
+ghost use Rattle.layout.specs.Records.{present_bytes};
+ghost use Rattle.layout.specs.Tables.{presence_in, presence_ok};
 ghost use Rattle.layout.specs.Lent.{lent, after};
-ghost use Rattle.arguments.specs.Replies.{numberedReply, yesOrNo};
+ghost use Rattle.arguments.specs.Replies.{numbered_reply, yes_or_no};
 
 use arguments::{Reply, replies};
-use core::pageidx::PageIdx;
+use basics::pageidx::PageIdx;
 use presencecalls::{page_mark, page_present, page_remove, pages_remove};
 
 // Whether a page of a segment is present: 20, 1.
 #[unsafe(no_mangle)]
 pub extern "C" fn sigatuda_page_present(presence: &[u8], sid: &[u8; 16], page: u32) -> Reply
-    ensures { result ≡ yesOrNo (lent (presenceOk presence.now) (pagePresent (presenceIn presence.now) sid.now page)) }
+    ensures { result ≡ yes_or_no (lent (presence_ok presence.now) (page_present (presence_in presence.now) sid.now page)) }
 {
     replies::yes_or_no(page_present(presence, *sid, PageIdx(page)))
 }
@@ -22,8 +22,8 @@ pub extern "C" fn sigatuda_page_present(presence: &[u8], sid: &[u8; 16], page: u
 // A page of a segment marked present; where it is already, nothing changes: 20, 1, 19.
 #[unsafe(no_mangle)]
 pub extern "C" fn sigatuda_page_mark(presence: &mut [u8], sid: &[u8; 16], page: u32) -> Reply
-    ensures value { result ≡ numberedReply (code (lent (presenceOk presence.old) (pageMark (presenceIn presence.old) sid.now page))) }
-    ensures presence_after { presence.new ≡ after presentBytes (λ t. t) presence.old (lent (presenceOk presence.old) (pageMark (presenceIn presence.old) sid.now page)) }
+    ensures value { result ≡ numbered_reply (code (lent (presence_ok presence.old) (page_mark (presence_in presence.old) sid.now page))) }
+    ensures presence_after { presence.new ≡ after present_bytes (λ t. t) presence.old (lent (presence_ok presence.old) (page_mark (presence_in presence.old) sid.now page)) }
 {
     replies::numbered(page_mark(presence, *sid, PageIdx(page)))
 }
@@ -31,8 +31,8 @@ pub extern "C" fn sigatuda_page_mark(presence: &mut [u8], sid: &[u8; 16], page: 
 // A page of a segment is present no more; where it is not, nothing changes: 20, 1.
 #[unsafe(no_mangle)]
 pub extern "C" fn sigatuda_page_remove(presence: &mut [u8], sid: &[u8; 16], page: u32) -> Reply
-    ensures value { result ≡ numberedReply (code (lent (presenceOk presence.old) (pageRemove (presenceIn presence.old) sid.now page))) }
-    ensures presence_after { presence.new ≡ after presentBytes (λ t. t) presence.old (lent (presenceOk presence.old) (pageRemove (presenceIn presence.old) sid.now page)) }
+    ensures value { result ≡ numbered_reply (code (lent (presence_ok presence.old) (page_remove (presence_in presence.old) sid.now page))) }
+    ensures presence_after { presence.new ≡ after present_bytes (λ t. t) presence.old (lent (presence_ok presence.old) (page_remove (presence_in presence.old) sid.now page)) }
 {
     replies::numbered(page_remove(presence, *sid, PageIdx(page)))
 }
@@ -45,8 +45,8 @@ pub extern "C" fn sigatuda_pages_remove(
     first: u32,
     last: u32,
 ) -> Reply
-    ensures value { result ≡ numberedReply (code (lent (presenceOk presence.old) (pagesRemove (presenceIn presence.old) sid.now first last))) }
-    ensures presence_after { presence.new ≡ after presentBytes (λ t. t) presence.old (lent (presenceOk presence.old) (pagesRemove (presenceIn presence.old) sid.now first last)) }
+    ensures value { result ≡ numbered_reply (code (lent (presence_ok presence.old) (pages_remove (presence_in presence.old) sid.now first last))) }
+    ensures presence_after { presence.new ≡ after present_bytes (λ t. t) presence.old (lent (presence_ok presence.old) (pages_remove (presence_in presence.old) sid.now first last)) }
 {
     replies::numbered(pages_remove(presence, *sid, PageIdx(first), PageIdx(last)))
 }

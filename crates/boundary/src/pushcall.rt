@@ -1,17 +1,17 @@
 // The ends of a push, success and recover; and open.
 ghost use Rattle.std.specs.Prelude.{◌≡◌, ℕ, ◌&&◌};
-ghost use Rattle.std.specs.Answers.{code, done};
+ghost use Rattle.basics.specs.Answers.{code, done};
 ghost use Rattle.rules.specs.Records.{Volume};
 ghost use Rattle.rules.specs.Tables.{Table};
 ghost use Rattle.rules.specs.Write.{Logs};
 ghost use Rattle.rules.specs.Push.{recover as recoverRule};
-ghost use Rattle.layout.specs.Records.{volumeBytes, commitBytes, checkpointBytes, entryBytes};
-ghost use Rattle.layout.specs.Tables.{volumesIn, volumesOk, commitsIn, commitsOk};
+ghost use Rattle.layout.specs.Records.{volume_bytes, commit_bytes, checkpoint_bytes, entry_bytes};
+ghost use Rattle.layout.specs.Tables.{volumes_in, volumes_ok, commits_in, commits_ok};
 ghost use Rattle.layout.specs.Lent.{lent, after};
-ghost use Rattle.writecalls.specs.Written.{logsIn};
-ghost use Rattle.pushcalls.specs.Pushes.{pushOk, successIn, number_of};
-ghost use Rattle.opencalls.specs.Opens.{wantedBy, asked, spares, open_in, outAfter};
-ghost use Rattle.arguments.specs.Replies.{numberedReply};
+ghost use Rattle.writecalls.specs.Written.{logs_in};
+ghost use Rattle.pushcalls.specs.Pushes.{push_ok, success_in, number_of};
+ghost use Rattle.opencalls.specs.Opens.{wanted_by, asked, spares, open_in, out_after};
+ghost use Rattle.arguments.specs.Replies.{numbered_reply};
 
 use arguments::Reply;
 use arguments::replies::numbered;
@@ -27,11 +27,11 @@ pub extern "C" fn sigatuda_success(
     vid: &[u8; 16],
     commit: &[u8],
 ) -> Reply
-    ensures value { result ≡ numberedReply (code (lent (pushOk volumes.old commits.old checkpoints.old index.old) (successIn (volumesIn volumes.old) (logsIn commits.old checkpoints.old index.old) vid.now commit.now))) }
-    ensures volumes_after { volumes.new ≡ after volumeBytes (λ (r : Table Volume × Logs). r.0) volumes.old (lent (pushOk volumes.old commits.old checkpoints.old index.old) (successIn (volumesIn volumes.old) (logsIn commits.old checkpoints.old index.old) vid.now commit.now)) }
-    ensures commits_after { commits.new ≡ after commitBytes (λ (r : Table Volume × Logs). r.1.commits) commits.old (lent (pushOk volumes.old commits.old checkpoints.old index.old) (successIn (volumesIn volumes.old) (logsIn commits.old checkpoints.old index.old) vid.now commit.now)) }
-    ensures checkpoints_after { checkpoints.new ≡ after checkpointBytes (λ (r : Table Volume × Logs). r.1.checkpoints) checkpoints.old (lent (pushOk volumes.old commits.old checkpoints.old index.old) (successIn (volumesIn volumes.old) (logsIn commits.old checkpoints.old index.old) vid.now commit.now)) }
-    ensures index_after { index.new ≡ after entryBytes (λ (r : Table Volume × Logs). r.1.index) index.old (lent (pushOk volumes.old commits.old checkpoints.old index.old) (successIn (volumesIn volumes.old) (logsIn commits.old checkpoints.old index.old) vid.now commit.now)) }
+    ensures value { result ≡ numbered_reply (code (lent (push_ok volumes.old commits.old checkpoints.old index.old) (success_in (volumes_in volumes.old) (logs_in commits.old checkpoints.old index.old) vid.now commit.now))) }
+    ensures volumes_after { volumes.new ≡ after volume_bytes (λ (r : Table Volume × Logs). r.0) volumes.old (lent (push_ok volumes.old commits.old checkpoints.old index.old) (success_in (volumes_in volumes.old) (logs_in commits.old checkpoints.old index.old) vid.now commit.now)) }
+    ensures commits_after { commits.new ≡ after commit_bytes (λ (r : Table Volume × Logs). r.1.commits) commits.old (lent (push_ok volumes.old commits.old checkpoints.old index.old) (success_in (volumes_in volumes.old) (logs_in commits.old checkpoints.old index.old) vid.now commit.now)) }
+    ensures checkpoints_after { checkpoints.new ≡ after checkpoint_bytes (λ (r : Table Volume × Logs). r.1.checkpoints) checkpoints.old (lent (push_ok volumes.old commits.old checkpoints.old index.old) (success_in (volumes_in volumes.old) (logs_in commits.old checkpoints.old index.old) vid.now commit.now)) }
+    ensures index_after { index.new ≡ after entry_bytes (λ (r : Table Volume × Logs). r.1.index) index.old (lent (push_ok volumes.old commits.old checkpoints.old index.old) (success_in (volumes_in volumes.old) (logs_in commits.old checkpoints.old index.old) vid.now commit.now)) }
 {
     let id = *vid;
     numbered(pushcalls::success(volumes, commits, checkpoints, index, id, commit))
@@ -46,11 +46,11 @@ pub extern "C" fn sigatuda_recover(
     index: &mut [u8],
     vid: &[u8; 16],
 ) -> Reply
-    ensures value { result ≡ numberedReply (number_of (lent (pushOk volumes.old commits.old checkpoints.old index.old) (done (recoverRule (volumesIn volumes.old) (logsIn commits.old checkpoints.old index.old) vid.now)))) }
-    ensures volumes_after { volumes.new ≡ after volumeBytes (λ (r : ℕ × Table Volume × Logs). r.1) volumes.old (lent (pushOk volumes.old commits.old checkpoints.old index.old) (done (recoverRule (volumesIn volumes.old) (logsIn commits.old checkpoints.old index.old) vid.now))) }
-    ensures commits_after { commits.new ≡ after commitBytes (λ (r : ℕ × Table Volume × Logs). r.2.commits) commits.old (lent (pushOk volumes.old commits.old checkpoints.old index.old) (done (recoverRule (volumesIn volumes.old) (logsIn commits.old checkpoints.old index.old) vid.now))) }
-    ensures checkpoints_after { checkpoints.new ≡ after checkpointBytes (λ (r : ℕ × Table Volume × Logs). r.2.checkpoints) checkpoints.old (lent (pushOk volumes.old commits.old checkpoints.old index.old) (done (recoverRule (volumesIn volumes.old) (logsIn commits.old checkpoints.old index.old) vid.now))) }
-    ensures index_after { index.new ≡ after entryBytes (λ (r : ℕ × Table Volume × Logs). r.2.index) index.old (lent (pushOk volumes.old commits.old checkpoints.old index.old) (done (recoverRule (volumesIn volumes.old) (logsIn commits.old checkpoints.old index.old) vid.now))) }
+    ensures value { result ≡ numbered_reply (number_of (lent (push_ok volumes.old commits.old checkpoints.old index.old) (done (recoverRule (volumes_in volumes.old) (logs_in commits.old checkpoints.old index.old) vid.now)))) }
+    ensures volumes_after { volumes.new ≡ after volume_bytes (λ (r : ℕ × Table Volume × Logs). r.1) volumes.old (lent (push_ok volumes.old commits.old checkpoints.old index.old) (done (recoverRule (volumes_in volumes.old) (logs_in commits.old checkpoints.old index.old) vid.now))) }
+    ensures commits_after { commits.new ≡ after commit_bytes (λ (r : ℕ × Table Volume × Logs). r.2.commits) commits.old (lent (push_ok volumes.old commits.old checkpoints.old index.old) (done (recoverRule (volumes_in volumes.old) (logs_in commits.old checkpoints.old index.old) vid.now))) }
+    ensures checkpoints_after { checkpoints.new ≡ after checkpoint_bytes (λ (r : ℕ × Table Volume × Logs). r.2.checkpoints) checkpoints.old (lent (push_ok volumes.old commits.old checkpoints.old index.old) (done (recoverRule (volumes_in volumes.old) (logs_in commits.old checkpoints.old index.old) vid.now))) }
+    ensures index_after { index.new ≡ after entry_bytes (λ (r : ℕ × Table Volume × Logs). r.2.index) index.old (lent (push_ok volumes.old commits.old checkpoints.old index.old) (done (recoverRule (volumes_in volumes.old) (logs_in commits.old checkpoints.old index.old) vid.now))) }
 {
     let id = *vid;
     numbered(pushcalls::recover(volumes, commits, checkpoints, index, id))
@@ -72,9 +72,9 @@ pub extern "C" fn sigatuda_open(
     spare_remote: &[u8; 16],
     out: &mut [u8],
 ) -> Reply
-    ensures value { result ≡ numberedReply (code (lent (volumesOk volumes.old && commitsOk commits.now) (open_in (volumesIn volumes.old) (commitsIn commits.now) (asked (wantedBy has_vid vid.now spare_vid.now) (wantedBy has_local local.now spare_local.now) (wantedBy has_remote remote.now spare_remote.now)) (spares (wantedBy has_vid vid.now spare_vid.now) (wantedBy has_local local.now spare_local.now) (wantedBy has_remote remote.now spare_remote.now)) out.old))) }
-    ensures volumes_after { volumes.new ≡ after volumeBytes (λ (r : Volume × Table Volume). r.1) volumes.old (lent (volumesOk volumes.old && commitsOk commits.now) (open_in (volumesIn volumes.old) (commitsIn commits.now) (asked (wantedBy has_vid vid.now spare_vid.now) (wantedBy has_local local.now spare_local.now) (wantedBy has_remote remote.now spare_remote.now)) (spares (wantedBy has_vid vid.now spare_vid.now) (wantedBy has_local local.now spare_local.now) (wantedBy has_remote remote.now spare_remote.now)) out.old)) }
-    ensures out_after { out.new ≡ outAfter volumeBytes (λ (r : Volume × Table Volume). r.0) out.old (lent (volumesOk volumes.old && commitsOk commits.now) (open_in (volumesIn volumes.old) (commitsIn commits.now) (asked (wantedBy has_vid vid.now spare_vid.now) (wantedBy has_local local.now spare_local.now) (wantedBy has_remote remote.now spare_remote.now)) (spares (wantedBy has_vid vid.now spare_vid.now) (wantedBy has_local local.now spare_local.now) (wantedBy has_remote remote.now spare_remote.now)) out.old)) }
+    ensures value { result ≡ numbered_reply (code (lent (volumes_ok volumes.old && commits_ok commits.now) (open_in (volumes_in volumes.old) (commits_in commits.now) (asked (wanted_by has_vid vid.now spare_vid.now) (wanted_by has_local local.now spare_local.now) (wanted_by has_remote remote.now spare_remote.now)) (spares (wanted_by has_vid vid.now spare_vid.now) (wanted_by has_local local.now spare_local.now) (wanted_by has_remote remote.now spare_remote.now)) out.old))) }
+    ensures volumes_after { volumes.new ≡ after volume_bytes (λ (r : Volume × Table Volume). r.1) volumes.old (lent (volumes_ok volumes.old && commits_ok commits.now) (open_in (volumes_in volumes.old) (commits_in commits.now) (asked (wanted_by has_vid vid.now spare_vid.now) (wanted_by has_local local.now spare_local.now) (wanted_by has_remote remote.now spare_remote.now)) (spares (wanted_by has_vid vid.now spare_vid.now) (wanted_by has_local local.now spare_local.now) (wanted_by has_remote remote.now spare_remote.now)) out.old)) }
+    ensures out_after { out.new ≡ out_after volume_bytes (λ (r : Volume × Table Volume). r.0) out.old (lent (volumes_ok volumes.old && commits_ok commits.now) (open_in (volumes_in volumes.old) (commits_in commits.now) (asked (wanted_by has_vid vid.now spare_vid.now) (wanted_by has_local local.now spare_local.now) (wanted_by has_remote remote.now spare_remote.now)) (spares (wanted_by has_vid vid.now spare_vid.now) (wanted_by has_local local.now spare_local.now) (wanted_by has_remote remote.now spare_remote.now)) out.old)) }
 {
     let asked_vid = *vid;
     let asked_local = *local;

@@ -1,11 +1,11 @@
 // Save.
 ghost use Rattle.std.specs.Prelude.{◌≡◌};
-ghost use Rattle.std.specs.Answers.{code};
-ghost use Rattle.arguments.specs.Replies.{numberedReply};
-ghost use Rattle.savecalls.specs.Saving.{saveOn, Leaves};
+ghost use Rattle.basics.specs.Answers.{code};
+ghost use Rattle.arguments.specs.Replies.{numbered_reply};
+ghost use Rattle.savecalls.specs.Saving.{save_on, Leaves};
 
 use arguments::{Reply, replies};
-use core::page_count::PageCount;
+use basics::page_count::PageCount;
 
 // Pages saved on a volume as a new commit of its local log, and the snapshot afterwards: 20, 1, 2, 3, 4, 7, 18, 5, 19.
 #[unsafe(no_mangle)]
@@ -22,8 +22,8 @@ pub extern "C" fn sigatuda_save(
     pages: &[u8],
     out: &mut [u8],
 ) -> Reply
-    ensures value { result ≡ numberedReply (code (saveOn volumes.now commits.old checkpoints.old index.old presence.old vid.now snapshot.now count sid.now pages.now out.old)) }
-    ensures leaves { Leaves commits.old checkpoints.old index.old presence.old out.old (saveOn volumes.now commits.old checkpoints.old index.old presence.old vid.now snapshot.now count sid.now pages.now out.old) result.code commits.new checkpoints.new index.new presence.new out.new }
+    ensures value { result ≡ numbered_reply (code (save_on volumes.now commits.old checkpoints.old index.old presence.old vid.now snapshot.now count sid.now pages.now out.old)) }
+    ensures leaves { Leaves commits.old checkpoints.old index.old presence.old out.old (save_on volumes.now commits.old checkpoints.old index.old presence.old vid.now snapshot.now count sid.now pages.now out.old) result.code commits.new checkpoints.new index.new presence.new out.new }
 {
     let volume = *vid;
     let segment = *sid;

@@ -1,15 +1,15 @@
 // A page's commit in a snapshot, and a log's checkpoint at or below an LSN.
 ghost use Rattle.std.specs.Prelude.{◌≡◌, ◌&&◌};
-ghost use Rattle.rules.specs.Reads.{checkpointRead};
-ghost use Rattle.layout.specs.Records.{commitBytes};
-ghost use Rattle.layout.specs.Tables.{commitsIn, commitsOk, checkpointsIn, checkpointsOk, indexIn, indexOk};
+ghost use Rattle.rules.specs.Reads.{checkpoint_read};
+ghost use Rattle.layout.specs.Records.{commit_bytes};
+ghost use Rattle.layout.specs.Tables.{commits_in, commits_ok, checkpoints_in, checkpoints_ok, index_in, index_ok};
 ghost use Rattle.layout.specs.Lent.{lent};
-ghost use Rattle.arguments.specs.Replies.{valueOr};
-ghost use Rattle.searchcalls.specs.Searches.{searchIn};
+ghost use Rattle.arguments.specs.Replies.{value_or};
+ghost use Rattle.searchcalls.specs.Searches.{search_in};
 
 use arguments::{Reply, replies};
-use core::lsn::Lsn;
-use core::pageidx::PageIdx;
+use basics::lsn::Lsn;
+use basics::pageidx::PageIdx;
 
 // The commit that a snapshot has of a page, to `out`, or nothing: 20, 1, 2, 3, 21.
 #[unsafe(no_mangle)]
@@ -20,7 +20,7 @@ pub extern "C" fn sigatuda_search(
     page: u32,
     out: &mut [u8],
 ) -> Reply
-    ensures { (result, out.new) ≡ valueOr commitBytes.spell out.old (lent (commitsOk commits.now && indexOk index.now) (searchIn (commitsIn commits.now) (indexIn index.now) snapshot.now page out.old)) }
+    ensures { (result, out.new) ≡ value_or commit_bytes.spell out.old (lent (commits_ok commits.now && index_ok index.now) (search_in (commits_in commits.now) (index_in index.now) snapshot.now page out.old)) }
 {
     searchcalls::search(commits, index, snapshot, PageIdx(page), out)
 }
@@ -33,7 +33,7 @@ pub extern "C" fn sigatuda_checkpoint_at(
     lsn: u64,
     checkpoint: &mut u64,
 ) -> Reply
-    ensures { (result, checkpoint.new) ≡ valueOr (λ m. m) checkpoint.old (lent (checkpointsOk checkpoints.now) (checkpointRead (checkpointsIn checkpoints.now) log.now lsn)) }
+    ensures { (result, checkpoint.new) ≡ value_or (λ m. m) checkpoint.old (lent (checkpoints_ok checkpoints.now) (checkpoint_read (checkpoints_in checkpoints.now) log.now lsn)) }
 {
     replies::put_maybe_lsn(
         searchcalls::checkpoint_at(checkpoints, *log, Lsn(lsn)),

@@ -1,13 +1,13 @@
 // Segments and their frames, in bytes.
 ghost use Rattle.std.specs.Prelude.{◌≡◌, length};
-ghost use Rattle.frames.specs.Rules.{listRule, frameRule, bytesRule, partBytes};
-ghost use Rattle.boundary.specs.Parts.{partLeft};
-ghost use Rattle.layout.specs.Values.{partBytes as entryForm};
-ghost use Rattle.resultlists.specs.Lists.{roomed, listLeft};
-ghost use Rattle.segmentargs.specs.Segments.{segmentArg, rangeArg, rangeLeft, joinLeft};
+ghost use Rattle.frames.specs.Rules.{list_rule, frame_rule, bytes_rule, part_bytes};
+ghost use Rattle.boundary.specs.Parts.{part_left};
+ghost use Rattle.layout.specs.Values.{part_bytes as entry_form};
+ghost use Rattle.resultlists.specs.Lists.{roomed, list_left};
+ghost use Rattle.segmentargs.specs.Segments.{segment_arg, range_arg, range_left, join_left};
 
 use arguments::Reply;
-use core::pageidx::PageIdx;
+use basics::pageidx::PageIdx;
 use frames::{BytesAnswer, frame_for, frame_place};
 use ranges::join;
 use segmentargs::lists::frame_list;
@@ -16,7 +16,7 @@ use segmentargs::{put_range, range_arg, segment_arg};
 // The frames of a segment as a list of ranges, and their number: 3, 19.
 #[unsafe(no_mangle)]
 pub extern "C" fn sigatuda_frame_list(segment: &[u8], list: &mut [u8], items: &mut u32) -> Reply
-    ensures { (result, (list.new, items.new)) ≡ listLeft entryForm list.old items.old (roomed entryForm list.old (listRule (segmentArg segment.now))) }
+    ensures { (result, (list.new, items.new)) ≡ list_left entry_form list.old items.old (roomed entry_form list.old (list_rule (segment_arg segment.now))) }
 {
     frame_list(segment, list, items)
 }
@@ -24,7 +24,7 @@ pub extern "C" fn sigatuda_frame_list(segment: &[u8], list: &mut [u8], items: &m
 // The frame of a page, or nothing: 1, 3.
 #[unsafe(no_mangle)]
 pub extern "C" fn sigatuda_frame_of_page(segment: &[u8], page: u32, out: &mut [u8]) -> Reply
-    ensures { (result, out.new) ≡ rangeLeft out.old (frameRule (segmentArg segment.now) page) }
+    ensures { (result, out.new) ≡ range_left out.old (frame_rule (segment_arg segment.now) page) }
 {
     put_range(frame_for(segment_arg(segment), PageIdx(page)), out)
 }
@@ -37,7 +37,7 @@ pub extern "C" fn sigatuda_frame_bytes<'a>(
     lent: &'a [u8],
     part: &mut &'a [u8],
 ) -> Reply
-    ensures { (result, part.new.now) ≡ partLeft lent.now part.old.now (partBytes (bytesRule (segmentArg segment.now) page (length lent.now))) }
+    ensures { (result, part.new.now) ≡ part_left lent.now part.old.now (part_bytes (bytes_rule (segment_arg segment.now) page (length lent.now))) }
 {
     let place = frame_place(segment_arg(segment), PageIdx(page), lent.len());
     match place {
@@ -54,7 +54,7 @@ pub extern "C" fn sigatuda_frame_bytes<'a>(
 // Two ranges joined, or nothing where they do not touch: 2, 3, 22.
 #[unsafe(no_mangle)]
 pub extern "C" fn sigatuda_join(a: &[u8], b: &[u8], out: &mut [u8]) -> Reply
-    ensures { (result, out.new) ≡ joinLeft out.old (rangeArg a.now) (rangeArg b.now) }
+    ensures { (result, out.new) ≡ join_left out.old (range_arg a.now) (range_arg b.now) }
 {
     put_range(join(range_arg(a), range_arg(b)), out)
 }

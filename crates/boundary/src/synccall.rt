@@ -1,21 +1,21 @@
 // Sync, and prepare of a push.
 ghost use Rattle.std.specs.Prelude.{◌≡◌, ◌&&◌};
-ghost use Rattle.std.specs.Answers.{code};
+ghost use Rattle.basics.specs.Answers.{code};
 ghost use Rattle.rules.specs.Push.{prepare};
 ghost use Rattle.rules.specs.Sync.{sync};
-ghost use Rattle.layout.specs.Records.{volumeBytes};
-ghost use Rattle.layout.specs.Tables.{volumesIn, volumesOk, commitsIn, commitsOk};
+ghost use Rattle.layout.specs.Records.{volume_bytes};
+ghost use Rattle.layout.specs.Tables.{volumes_in, volumes_ok, commits_in, commits_ok};
 ghost use Rattle.layout.specs.Lent.{lent, after};
-ghost use Rattle.arguments.specs.Replies.{numberedReply};
+ghost use Rattle.arguments.specs.Replies.{numbered_reply};
 
 use arguments::{Reply, replies};
-use core::lsn::Lsn;
+use basics::lsn::Lsn;
 
 // A volume's sync point moved to the remote's latest: 20, 4, 16, 8.
 #[unsafe(no_mangle)]
 pub extern "C" fn sigatuda_sync(volumes: &mut [u8], commits: &[u8], vid: &[u8; 16]) -> Reply
-    ensures value { result ≡ numberedReply (code (lent (volumesOk volumes.old && commitsOk commits.now) (sync (volumesIn volumes.old) (commitsIn commits.now) vid.now))) }
-    ensures volumes_after { volumes.new ≡ after volumeBytes (λ t. t) volumes.old (lent (volumesOk volumes.old && commitsOk commits.now) (sync (volumesIn volumes.old) (commitsIn commits.now) vid.now)) }
+    ensures value { result ≡ numbered_reply (code (lent (volumes_ok volumes.old && commits_ok commits.now) (sync (volumes_in volumes.old) (commits_in commits.now) vid.now))) }
+    ensures volumes_after { volumes.new ≡ after volume_bytes (λ t. t) volumes.old (lent (volumes_ok volumes.old && commits_ok commits.now) (sync (volumes_in volumes.old) (commits_in commits.now) vid.now)) }
 {
     replies::numbered(synccalls::sync(volumes, commits, *vid))
 }
@@ -30,8 +30,8 @@ pub extern "C" fn sigatuda_prepare(
     commit: u64,
     hash: &[u8; 32],
 ) -> Reply
-    ensures value { result ≡ numberedReply (code (lent (volumesOk volumes.old && commitsOk commits.now) (prepare (volumesIn volumes.old) (commitsIn commits.now) vid.now (record { local = local; commit = commit; hash = hash.now })))) }
-    ensures volumes_after { volumes.new ≡ after volumeBytes (λ t. t) volumes.old (lent (volumesOk volumes.old && commitsOk commits.now) (prepare (volumesIn volumes.old) (commitsIn commits.now) vid.now (record { local = local; commit = commit; hash = hash.now }))) }
+    ensures value { result ≡ numbered_reply (code (lent (volumes_ok volumes.old && commits_ok commits.now) (prepare (volumes_in volumes.old) (commits_in commits.now) vid.now (record { local = local; commit = commit; hash = hash.now })))) }
+    ensures volumes_after { volumes.new ≡ after volume_bytes (λ t. t) volumes.old (lent (volumes_ok volumes.old && commits_ok commits.now) (prepare (volumes_in volumes.old) (commits_in commits.now) vid.now (record { local = local; commit = commit; hash = hash.now }))) }
 {
     replies::numbered(synccalls::prepare(volumes, commits, *vid, Lsn(local), Lsn(commit), *hash))
 }

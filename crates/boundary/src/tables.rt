@@ -1,13 +1,13 @@
 // The six tables: whether lent bytes are a table, the one test behind 20.
 ghost use Rattle.std.specs.Prelude.{◌≡◌};
-ghost use Rattle.layout.specs.Tables.{volumesOk, tagsOk, commitsOk, checkpointsOk, indexOk, presenceOk};
-ghost use Rattle.boundary.specs.Tables.{formedReply};
+ghost use Rattle.layout.specs.Tables.{volumes_ok, tags_ok, commits_ok, checkpoints_ok, index_ok, presence_ok};
+ghost use Rattle.boundary.specs.Tables.{formed_reply};
 
 use arguments::Reply;
 
 // 0 for a table, 20 for other bytes.
 fn formed_reply(formed: bool) -> Reply
-    ensures { result ≡ formedReply formed }
+    ensures { result ≡ formed_reply formed }
 {
     if formed {
         return Reply { code: 0, found: 1 };
@@ -18,7 +18,7 @@ fn formed_reply(formed: bool) -> Reply
 // Whether bytes are a table of volumes: 20.
 #[unsafe(no_mangle)]
 pub extern "C" fn sigatuda_volumes_formed(volumes: &[u8]) -> Reply
-    ensures { result ≡ formedReply (volumesOk volumes.now) }
+    ensures { result ≡ formed_reply (volumes_ok volumes.now) }
 {
     formed_reply(volumes::volumes_formed(volumes))
 }
@@ -26,7 +26,7 @@ pub extern "C" fn sigatuda_volumes_formed(volumes: &[u8]) -> Reply
 // Whether bytes are a table of tags: 20.
 #[unsafe(no_mangle)]
 pub extern "C" fn sigatuda_tags_formed(tags: &[u8]) -> Reply
-    ensures { result ≡ formedReply (tagsOk tags.now) }
+    ensures { result ≡ formed_reply (tags_ok tags.now) }
 {
     formed_reply(tags::tags_formed(tags))
 }
@@ -34,7 +34,7 @@ pub extern "C" fn sigatuda_tags_formed(tags: &[u8]) -> Reply
 // Whether bytes are a table of commits: 20.
 #[unsafe(no_mangle)]
 pub extern "C" fn sigatuda_commits_formed(commits: &[u8]) -> Reply
-    ensures { result ≡ formedReply (commitsOk commits.now) }
+    ensures { result ≡ formed_reply (commits_ok commits.now) }
 {
     formed_reply(commits::commits_formed(commits))
 }
@@ -42,7 +42,7 @@ pub extern "C" fn sigatuda_commits_formed(commits: &[u8]) -> Reply
 // Whether bytes are a table of checkpoints: 20.
 #[unsafe(no_mangle)]
 pub extern "C" fn sigatuda_checkpoints_formed(checkpoints: &[u8]) -> Reply
-    ensures { result ≡ formedReply (checkpointsOk checkpoints.now) }
+    ensures { result ≡ formed_reply (checkpoints_ok checkpoints.now) }
 {
     formed_reply(entries::checkpoints_formed(checkpoints))
 }
@@ -50,7 +50,7 @@ pub extern "C" fn sigatuda_checkpoints_formed(checkpoints: &[u8]) -> Reply
 // Whether bytes are a page index: 20.
 #[unsafe(no_mangle)]
 pub extern "C" fn sigatuda_index_formed(index: &[u8]) -> Reply
-    ensures { result ≡ formedReply (indexOk index.now) }
+    ensures { result ≡ formed_reply (index_ok index.now) }
 {
     formed_reply(entries::index_formed(index))
 }
@@ -58,7 +58,7 @@ pub extern "C" fn sigatuda_index_formed(index: &[u8]) -> Reply
 // Whether bytes are a table of present pages: 20.
 #[unsafe(no_mangle)]
 pub extern "C" fn sigatuda_presence_formed(presence: &[u8]) -> Reply
-    ensures { result ≡ formedReply (presenceOk presence.now) }
+    ensures { result ≡ formed_reply (presence_ok presence.now) }
 {
     formed_reply(entries::presence_formed(presence))
 }

@@ -1,12 +1,12 @@
 // The calls on tags: read, exists, delete and replace.
 ghost use Rattle.std.specs.Prelude.{◌≡◌};
-ghost use Rattle.std.specs.Answers.{code};
-ghost use Rattle.rules.specs.Reads.{tagRead, tagExists, tagDelete, tagReplace};
-ghost use Rattle.layout.specs.Records.{tagBytes};
-ghost use Rattle.layout.specs.Tables.{tagsIn, tagsOk};
+ghost use Rattle.basics.specs.Answers.{code};
+ghost use Rattle.rules.specs.Reads.{tag_read, tag_exists, tag_delete, tag_replace};
+ghost use Rattle.layout.specs.Records.{tag_bytes};
+ghost use Rattle.layout.specs.Tables.{tags_in, tags_ok};
 ghost use Rattle.layout.specs.Lent.{lent, after};
 ghost use Rattle.tagcalls.specs.Says.{earlier as earlierOf};
-ghost use Rattle.arguments.specs.Replies.{numberedReply, yesOrNo, valueOr};
+ghost use Rattle.arguments.specs.Replies.{numbered_reply, yes_or_no, value_or};
 
 use arguments::{Reply, replies};
 use tablereplies::put_tagged;
@@ -15,7 +15,7 @@ use tagcalls::{tag_delete, tag_exists, tag_read, tag_replace};
 // The volume that a tag names, or nothing: 20, 1.
 #[unsafe(no_mangle)]
 pub extern "C" fn sigatuda_tag_read(tags: &[u8], name: &[u8], vid: &mut [u8; 16]) -> Reply
-    ensures { (result, vid.new) ≡ valueOr (λ v. v) vid.old (lent (tagsOk tags.now) (tagRead (tagsIn tags.now) name.now)) }
+    ensures { (result, vid.new) ≡ value_or (λ v. v) vid.old (lent (tags_ok tags.now) (tag_read (tags_in tags.now) name.now)) }
 {
     put_tagged(tag_read(tags, name), vid)
 }
@@ -23,7 +23,7 @@ pub extern "C" fn sigatuda_tag_read(tags: &[u8], name: &[u8], vid: &mut [u8; 16]
 // Whether a tag is stored: 20, 1.
 #[unsafe(no_mangle)]
 pub extern "C" fn sigatuda_tag_exists(tags: &[u8], name: &[u8]) -> Reply
-    ensures { result ≡ yesOrNo (lent (tagsOk tags.now) (tagExists (tagsIn tags.now) name.now)) }
+    ensures { result ≡ yes_or_no (lent (tags_ok tags.now) (tag_exists (tags_in tags.now) name.now)) }
 {
     replies::yes_or_no(tag_exists(tags, name))
 }
@@ -31,8 +31,8 @@ pub extern "C" fn sigatuda_tag_exists(tags: &[u8], name: &[u8]) -> Reply
 // A tag deleted; where there is none, nothing changes: 20, 1.
 #[unsafe(no_mangle)]
 pub extern "C" fn sigatuda_tag_delete(tags: &mut [u8], name: &[u8]) -> Reply
-    ensures value { result ≡ numberedReply (code (lent (tagsOk tags.old) (tagDelete (tagsIn tags.old) name.now))) }
-    ensures tags_after { tags.new ≡ after tagBytes (λ t. t) tags.old (lent (tagsOk tags.old) (tagDelete (tagsIn tags.old) name.now)) }
+    ensures value { result ≡ numbered_reply (code (lent (tags_ok tags.old) (tag_delete (tags_in tags.old) name.now))) }
+    ensures tags_after { tags.new ≡ after tag_bytes (λ t. t) tags.old (lent (tags_ok tags.old) (tag_delete (tags_in tags.old) name.now)) }
 {
     replies::numbered(tag_delete(tags, name))
 }
@@ -45,8 +45,8 @@ pub extern "C" fn sigatuda_tag_replace(
     vid: &[u8; 16],
     earlier: &mut [u8; 16],
 ) -> Reply
-    ensures earlier_after { (result, earlier.new) ≡ valueOr (λ v. v) earlier.old (earlierOf (lent (tagsOk tags.old) (tagReplace (tagsIn tags.old) name.now vid.now))) }
-    ensures tags_after { tags.new ≡ after tagBytes (λ p. p.1) tags.old (lent (tagsOk tags.old) (tagReplace (tagsIn tags.old) name.now vid.now)) }
+    ensures earlier_after { (result, earlier.new) ≡ value_or (λ v. v) earlier.old (earlierOf (lent (tags_ok tags.old) (tag_replace (tags_in tags.old) name.now vid.now))) }
+    ensures tags_after { tags.new ≡ after tag_bytes (λ p. p.1) tags.old (lent (tags_ok tags.old) (tag_replace (tags_in tags.old) name.now vid.now)) }
 {
     put_tagged(tag_replace(tags, name, *vid), earlier)
 }

@@ -1,11 +1,11 @@
 // What a reader sees of a volume: its snapshot, and whether a snapshot is the latest.
 ghost use Rattle.std.specs.Prelude.{◌≡◌, ◌&&◌};
 ghost use Rattle.rules.specs.Snapshots.{snapshot as snapshotRule};
-ghost use Rattle.layout.specs.Tables.{volumesIn, volumesOk, commitsIn, commitsOk};
-ghost use Rattle.layout.specs.Values.{snapshotBytes};
+ghost use Rattle.layout.specs.Tables.{volumes_in, volumes_ok, commits_in, commits_ok};
+ghost use Rattle.layout.specs.Values.{snapshot_bytes};
 ghost use Rattle.layout.specs.Lent.{lent};
-ghost use Rattle.arguments.specs.Replies.{value, yesOrNo, placed};
-ghost use Rattle.viewargs.specs.Views.{latestIn};
+ghost use Rattle.arguments.specs.Replies.{value, yes_or_no, placed};
+ghost use Rattle.viewargs.specs.Views.{latest_in};
 
 use arguments::{Reply, replies};
 
@@ -17,7 +17,7 @@ pub extern "C" fn sigatuda_snapshot(
     vid: &[u8; 16],
     out: &mut [u8],
 ) -> Reply
-    ensures { (result, out.new) ≡ value snapshotBytes.spell out.old (lent (volumesOk volumes.now && commitsOk commits.now) (placed snapshotBytes.size out.old (snapshotRule (volumesIn volumes.now) (commitsIn commits.now) vid.now))) }
+    ensures { (result, out.new) ≡ value snapshot_bytes.spell out.old (lent (volumes_ok volumes.now && commits_ok commits.now) (placed snapshot_bytes.size out.old (snapshotRule (volumes_in volumes.now) (commits_in commits.now) vid.now))) }
 {
     viewargs::snapshot(volumes, commits, *vid, out)
 }
@@ -30,7 +30,7 @@ pub extern "C" fn sigatuda_latest_check(
     vid: &[u8; 16],
     snapshot: &[u8],
 ) -> Reply
-    ensures { result ≡ yesOrNo (lent (volumesOk volumes.now && commitsOk commits.now) (latestIn (volumesIn volumes.now) (commitsIn commits.now) vid.now snapshot.now)) }
+    ensures { result ≡ yes_or_no (lent (volumes_ok volumes.now && commits_ok commits.now) (latest_in (volumes_in volumes.now) (commits_in commits.now) vid.now snapshot.now)) }
 {
     replies::yes_or_no(viewargs::latest_check(volumes, commits, *vid, snapshot))
 }

@@ -1,13 +1,13 @@
 // The calls on volumes: read, exists, delete, and drop of a pending commit.
 ghost use Rattle.std.specs.Prelude.{◌≡◌};
-ghost use Rattle.std.specs.Answers.{code};
-ghost use Rattle.rules.specs.Reads.{volumeRead, volumeExists, volumeDelete};
-ghost use Rattle.rules.specs.Push.{dropPending};
-ghost use Rattle.layout.specs.Records.{volumeBytes};
-ghost use Rattle.layout.specs.Tables.{volumesIn, volumesOk};
+ghost use Rattle.basics.specs.Answers.{code};
+ghost use Rattle.rules.specs.Reads.{volume_read, volume_exists, volume_delete};
+ghost use Rattle.rules.specs.Push.{drop_pending};
+ghost use Rattle.layout.specs.Records.{volume_bytes};
+ghost use Rattle.layout.specs.Tables.{volumes_in, volumes_ok};
 ghost use Rattle.layout.specs.Lent.{lent, after};
-ghost use Rattle.arguments.specs.Replies.{numberedReply, yesOrNo};
-ghost use Rattle.tablereplies.specs.Records.{volumeLeft};
+ghost use Rattle.arguments.specs.Replies.{numbered_reply, yes_or_no};
+ghost use Rattle.tablereplies.specs.Records.{volume_left};
 
 use arguments::{Reply, replies};
 use tablereplies::put_volume;
@@ -16,7 +16,7 @@ use volumecalls::{drop_pending, volume_delete, volume_exists, volume_read};
 // The volume of an identifier, in its table form: 20, 3, 4.
 #[unsafe(no_mangle)]
 pub extern "C" fn sigatuda_volume_read(volumes: &[u8], vid: &[u8; 16], out: &mut [u8]) -> Reply
-    ensures { (result, out.new) ≡ volumeLeft out.old (volumesOk volumes.now) (volumeRead (volumesIn volumes.now) vid.now) }
+    ensures { (result, out.new) ≡ volume_left out.old (volumes_ok volumes.now) (volume_read (volumes_in volumes.now) vid.now) }
 {
     put_volume(volume_read(volumes, *vid), out)
 }
@@ -24,7 +24,7 @@ pub extern "C" fn sigatuda_volume_read(volumes: &[u8], vid: &[u8; 16], out: &mut
 // Whether a volume is stored: 20.
 #[unsafe(no_mangle)]
 pub extern "C" fn sigatuda_volume_exists(volumes: &[u8], vid: &[u8; 16]) -> Reply
-    ensures { result ≡ yesOrNo (lent (volumesOk volumes.now) (volumeExists (volumesIn volumes.now) vid.now)) }
+    ensures { result ≡ yes_or_no (lent (volumes_ok volumes.now) (volume_exists (volumes_in volumes.now) vid.now)) }
 {
     replies::yes_or_no(volume_exists(volumes, *vid))
 }
@@ -32,8 +32,8 @@ pub extern "C" fn sigatuda_volume_exists(volumes: &[u8], vid: &[u8; 16]) -> Repl
 // A volume deleted; where there is none, nothing changes: 20.
 #[unsafe(no_mangle)]
 pub extern "C" fn sigatuda_volume_delete(volumes: &mut [u8], vid: &[u8; 16]) -> Reply
-    ensures value { result ≡ numberedReply (code (lent (volumesOk volumes.old) (volumeDelete (volumesIn volumes.old) vid.now))) }
-    ensures volumes_after { volumes.new ≡ after volumeBytes (λ t. t) volumes.old (lent (volumesOk volumes.old) (volumeDelete (volumesIn volumes.old) vid.now)) }
+    ensures value { result ≡ numbered_reply (code (lent (volumes_ok volumes.old) (volume_delete (volumes_in volumes.old) vid.now))) }
+    ensures volumes_after { volumes.new ≡ after volume_bytes (λ t. t) volumes.old (lent (volumes_ok volumes.old) (volume_delete (volumes_in volumes.old) vid.now)) }
 {
     replies::numbered(volume_delete(volumes, *vid))
 }
@@ -41,8 +41,8 @@ pub extern "C" fn sigatuda_volume_delete(volumes: &mut [u8], vid: &[u8; 16]) -> 
 // A volume's pending commit dropped; where none is pending, nothing changes: 20, 4.
 #[unsafe(no_mangle)]
 pub extern "C" fn sigatuda_drop(volumes: &mut [u8], vid: &[u8; 16]) -> Reply
-    ensures value { result ≡ numberedReply (code (lent (volumesOk volumes.old) (dropPending (volumesIn volumes.old) vid.now))) }
-    ensures volumes_after { volumes.new ≡ after volumeBytes (λ t. t) volumes.old (lent (volumesOk volumes.old) (dropPending (volumesIn volumes.old) vid.now)) }
+    ensures value { result ≡ numbered_reply (code (lent (volumes_ok volumes.old) (drop_pending (volumes_in volumes.old) vid.now))) }
+    ensures volumes_after { volumes.new ≡ after volume_bytes (λ t. t) volumes.old (lent (volumes_ok volumes.old) (drop_pending (volumes_in volumes.old) vid.now)) }
 {
     replies::numbered(drop_pending(volumes, *vid))
 }

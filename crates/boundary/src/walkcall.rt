@@ -1,12 +1,12 @@
 // The walk of a snapshot, and the frames that it lacks.
 ghost use Rattle.std.specs.Prelude.{◌≡◌, ◌&&◌};
-ghost use Rattle.rules.specs.Walk.{walk, missingFrames};
-ghost use Rattle.layout.specs.Values.{partBytes};
-ghost use Rattle.layout.specs.Tables.{commitsIn, commitsOk, presenceIn, presenceOk};
+ghost use Rattle.rules.specs.Walk.{walk, missing_frames};
+ghost use Rattle.layout.specs.Values.{part_bytes};
+ghost use Rattle.layout.specs.Tables.{commits_in, commits_ok, presence_in, presence_ok};
 ghost use Rattle.layout.specs.Lent.{lent};
-ghost use Rattle.resultlists.specs.Lists.{slotsIn, listLeft};
-ghost use Rattle.resultlists.specs.Snapshots.{onSnapshot};
-ghost use Rattle.walkcalls.specs.Items.{itemBytes};
+ghost use Rattle.resultlists.specs.Lists.{slots_in, list_left};
+ghost use Rattle.resultlists.specs.Snapshots.{on_snapshot};
+ghost use Rattle.walkcalls.specs.Items.{item_bytes};
 
 use arguments::Reply;
 
@@ -18,7 +18,7 @@ pub extern "C" fn sigatuda_walk(
     list: &mut [u8],
     items: &mut u32,
 ) -> Reply
-    ensures { (result, (list.new, items.new)) ≡ listLeft itemBytes list.old items.old (lent (commitsOk commits.now) (onSnapshot snapshot.now (walk (commitsIn commits.now) (slotsIn itemBytes list.old)))) }
+    ensures { (result, (list.new, items.new)) ≡ list_left item_bytes list.old items.old (lent (commits_ok commits.now) (on_snapshot snapshot.now (walk (commits_in commits.now) (slots_in item_bytes list.old)))) }
 {
     walkcalls::walk(commits, snapshot, list, items)
 }
@@ -32,7 +32,7 @@ pub extern "C" fn sigatuda_missing_frames(
     list: &mut [u8],
     items: &mut u32,
 ) -> Reply
-    ensures { (result, (list.new, items.new)) ≡ listLeft partBytes list.old items.old (lent (commitsOk commits.now && presenceOk presence.now) (onSnapshot snapshot.now (missingFrames (commitsIn commits.now) (presenceIn presence.now) (slotsIn partBytes list.old)))) }
+    ensures { (result, (list.new, items.new)) ≡ list_left part_bytes list.old items.old (lent (commits_ok commits.now && presence_ok presence.now) (on_snapshot snapshot.now (missing_frames (commits_in commits.now) (presence_in presence.now) (slots_in part_bytes list.old)))) }
 {
     missingcalls::missing_frames(commits, presence, snapshot, list, items)
 }

@@ -1,8 +1,8 @@
 -- The lines of a call list and what they mean. A line not in this form is 24.
 use Rattle.std.specs.Prelude.{ℕ, Bool, cond, List, [], ◌∷◌, length, drop, nat_le}
-use Rattle.std.specs.Answers.{Answer, refused, done, ask, ◌>>=◌, ◌>>◌}
-use Rattle.callline.specs.Texts.{Text, split, starts, isText}
-use Rattle.callline.specs.Values.{Range, malformed, last32, identifierOf, decimalOf, pagesOf}
+use Rattle.basics.specs.Answers.{Answer, refused, done, ask, ◌>>=◌, ◌>>◌}
+use Rattle.callline.specs.Texts.{Text, split, starts, is_text}
+use Rattle.callline.specs.Values.{Range, malformed, last32, identifier_of, decimal_of, pages_of}
 
 -- a call with its values: an identifier by its last byte, pages by their ranges
 pub data Call : Type 0 where
@@ -58,36 +58,36 @@ abbrev pub lsn= : Text
 lsn= = 108 ∷ 115 ∷ 110 ∷ 61 ∷ []
 
 -- slots 0 to 3 hold snapshots
-abbrev pub lastSlot : ℕ
-lastSlot = 3
+abbrev pub last_slot : ℕ
+last_slot = 3
 
 -- the largest LSN
 abbrev pub last64 : ℕ
 last64 = 18446744073709551615
 
 -- op=open vid= local= remote=
-unfoldable pub openOf : List Text → Answer Call
-openOf = field vid= identifierOf λ vid. field local= identifierOf λ near. field remote= identifierOf λ far. end (Open vid near far)
+unfoldable pub open_of : List Text → Answer Call
+open_of = field vid= identifier_of λ vid. field local= identifier_of λ near. field remote= identifier_of λ far. end (Open vid near far)
 
 -- op=snap vid= slot=
-unfoldable pub snapOf : List Text → Answer Call
-snapOf = field vid= identifierOf λ vid. field slot= (decimalOf lastSlot) λ slot. end (Snap vid slot)
+unfoldable pub snap_of : List Text → Answer Call
+snap_of = field vid= identifier_of λ vid. field slot= (decimal_of last_slot) λ slot. end (Snap vid slot)
 
 -- op=save vid= slot= count= sid= pages=
-unfoldable pub saveOf : List Text → Answer Call
-saveOf = field vid= identifierOf λ vid. field slot= (decimalOf lastSlot) λ slot. field count= (decimalOf last32) λ count. field sid= identifierOf λ sid. field pages= pagesOf λ pages. end (Save vid slot count sid pages)
+unfoldable pub save_of : List Text → Answer Call
+save_of = field vid= identifier_of λ vid. field slot= (decimal_of last_slot) λ slot. field count= (decimal_of last32) λ count. field sid= identifier_of λ sid. field pages= pages_of λ pages. end (Save vid slot count sid pages)
 
 -- op=find slot= page=
-unfoldable pub findOf : List Text → Answer Call
-findOf = field slot= (decimalOf lastSlot) λ slot. field page= (decimalOf last32) λ page. end (Find slot page)
+unfoldable pub find_of : List Text → Answer Call
+find_of = field slot= (decimal_of last_slot) λ slot. field page= (decimal_of last32) λ page. end (Find slot page)
 
 -- op=fetch log= lsn= count= sid= pages=
-unfoldable pub fetchOf : List Text → Answer Call
-fetchOf = field log= identifierOf λ log. field lsn= (decimalOf last64) λ lsn. field count= (decimalOf last32) λ count. field sid= identifierOf λ sid. field pages= pagesOf λ pages. end (Fetch log lsn count sid pages)
+unfoldable pub fetch_of : List Text → Answer Call
+fetch_of = field log= identifier_of λ log. field lsn= (decimal_of last64) λ lsn. field count= (decimal_of last32) λ count. field sid= identifier_of λ sid. field pages= pages_of λ pages. end (Fetch log lsn count sid pages)
 
 -- op=pull vid=
-unfoldable pub pullOf : List Text → Answer Call
-pullOf = field vid= identifierOf λ vid. end (Pull vid)
+unfoldable pub pull_of : List Text → Answer Call
+pull_of = field vid= identifier_of λ vid. end (Pull vid)
 
 -- the first words
 abbrev pub op=open : Text
@@ -112,12 +112,12 @@ op=pull = 111 ∷ 112 ∷ 61 ∷ 112 ∷ 117 ∷ 108 ∷ 108 ∷ []
 unfoldable pub call_of : List Text → Answer Call
 call_of [] = refused malformed
 call_of (w ∷ ws) =
-    cond (isText op=open w) (openOf ws)
-    (cond (isText op=snap w) (snapOf ws)
-    (cond (isText op=save w) (saveOf ws)
-    (cond (isText op=find w) (findOf ws)
-    (cond (isText op=fetch w) (fetchOf ws)
-    (cond (isText op=pull w) (pullOf ws)
+    cond (is_text op=open w) (open_of ws)
+    (cond (is_text op=snap w) (snap_of ws)
+    (cond (is_text op=save w) (save_of ws)
+    (cond (is_text op=find w) (find_of ws)
+    (cond (is_text op=fetch w) (fetch_of ws)
+    (cond (is_text op=pull w) (pull_of ws)
     (refused malformed))))))
 
 -- a line is at most 256 bytes: words with one space between

@@ -21,8 +21,8 @@ before s [] = 0
 before s (b ∷ t) = cond (b == s) 0 (suc (before s t))
 
 -- the pieces that follow the one that ends at a place: none where the text ends there
-unfoldable pub piecesAfter : ℕ → Text → ℕ → List Text
-piecesAfter s t e = cond (nat_lt e (length t)) (split s (drop (e + 1) t)) []
+unfoldable pub pieces_after : ℕ → Text → ℕ → List Text
+pieces_after s t e = cond (nat_lt e (length t)) (split s (drop (e + 1) t)) []
 
 -- whether a text begins with another
 unfoldable pub starts : Text → Text → Bool
@@ -31,8 +31,8 @@ starts (k ∷ ks) [] = false
 starts (k ∷ ks) (b ∷ t) = cond (b == k) (starts ks t) false
 
 -- whether two texts are the same
-unfoldable pub isText : Text → Text → Bool
-isText k t = length t == length k && starts k t
+unfoldable pub is_text : Text → Text → Bool
+is_text k t = length t == length k && starts k t
 
 -- the part of a text from one place up to another
 abbrev pub between : ℕ → ℕ → Text → Text

@@ -1,32 +1,32 @@
 -- The values that a call list line may hold. A text that is not in the form is 24.
 use Rattle.std.specs.Prelude.{ℕ, ◌+◌, ◌-◌, ◌*◌, ◌^◌, Bool, true, false, cond, not, ◌&&◌, ◌||◌, List, [], ◌∷◌, length, ◌==◌, nat_le, nat_lt, slice_index}
-use Rattle.std.specs.Answers.{Answer, refused, done, ask, ◌>>=◌, ◌>>◌}
-use Rattle.callline.specs.Texts.{Text, split, isText}
+use Rattle.basics.specs.Answers.{Answer, refused, done, ask, ◌>>=◌, ◌>>◌}
+use Rattle.callline.specs.Texts.{Text, split, is_text}
 
 -- the number of a line that is not in the form
 abbrev pub malformed : ℕ
 malformed = 24
 
 -- `0` to `9`
-abbrev pub isDigit : ℕ → Bool
-isDigit b = nat_le 48 b && nat_le b 57
+abbrev pub is_digit : ℕ → Bool
+is_digit b = nat_le 48 b && nat_le b 57
 
 -- the value of a digit of lower case hex, `0` to `9` and `a` to `f`; 16 for any other byte
-unfoldable pub hexDigit : ℕ → ℕ
-hexDigit b = cond (isDigit b) (b - 48) (cond (nat_le 97 b && nat_le b 102) (b - 87) 16)
+unfoldable pub hex_digit : ℕ → ℕ
+hex_digit b = cond (is_digit b) (b - 48) (cond (nat_le 97 b && nat_le b 102) (b - 87) 16)
 
 -- two hex digits are an identifier's last byte
-unfoldable pub identifierOf : Text → Answer ℕ
-identifierOf t = do
+unfoldable pub identifier_of : Text → Answer ℕ
+identifier_of t = do
   ask (length t == 2) malformed
-  ask (nat_lt (hexDigit (slice_index t 0)) 16) malformed
-  ask (nat_lt (hexDigit (slice_index t 1)) 16) malformed
-  done (hexDigit (slice_index t 0) * 16 + hexDigit (slice_index t 1))
+  ask (nat_lt (hex_digit (slice_index t 0)) 16) malformed
+  ask (nat_lt (hex_digit (slice_index t 1)) 16) malformed
+  done (hex_digit (slice_index t 0) * 16 + hex_digit (slice_index t 1))
 
 -- every byte is a digit
-unfoldable pub allDigits : Text → Bool
-allDigits [] = true
-allDigits (b ∷ t) = cond (isDigit b) (allDigits t) false
+unfoldable pub all_digits : Text → Bool
+all_digits [] = true
+all_digits (b ∷ t) = cond (is_digit b) (all_digits t) false
 
 -- the number that decimal digits spell behind those of n
 unfoldable pub spelled : ℕ → Text → ℕ
@@ -38,10 +38,10 @@ unfoldable pub leads : Text → Bool
 leads t = nat_lt 0 (length t) && (length t == 1 || not (slice_index t 0 == 48))
 
 -- a decimal without leading zeros, no number above the limit
-unfoldable pub decimalOf : ℕ → Text → Answer ℕ
-decimalOf limit t = do
+unfoldable pub decimal_of : ℕ → Text → Answer ℕ
+decimal_of limit t = do
   ask (leads t) malformed
-  ask (allDigits t && nat_le (spelled 0 t) limit) malformed
+  ask (all_digits t && nat_le (spelled 0 t) limit) malformed
   done (spelled 0 t)
 
 -- the pages from first to last
@@ -54,20 +54,20 @@ abbrev pub last32 : ℕ
 last32 = 4294967295
 
 -- a page alone, or two with `-` between
-unfoldable pub endsOf : List Text → Answer Range
-endsOf [] = refused malformed
-endsOf (a ∷ []) = do
-  n ← decimalOf last32 a
+unfoldable pub ends_of : List Text → Answer Range
+ends_of [] = refused malformed
+ends_of (a ∷ []) = do
+  n ← decimal_of last32 a
   done (record { first = n; last = n })
-endsOf (a ∷ b ∷ []) = do
-  n ← decimalOf last32 a
-  m ← decimalOf last32 b
+ends_of (a ∷ b ∷ []) = do
+  n ← decimal_of last32 a
+  m ← decimal_of last32 b
   done (record { first = n; last = m })
-endsOf (a ∷ b ∷ c ∷ ps) = refused malformed
+ends_of (a ∷ b ∷ c ∷ ps) = refused malformed
 
 -- `7` or `1-3`
 unfoldable pub range_of : Text → Answer Range
-range_of t = endsOf (split 45 t)
+range_of t = ends_of (split 45 t)
 
 -- a range starts above the page given and does not fall
 abbrev pub follows : ℕ → Range → Bool
@@ -87,5 +87,5 @@ abbrev pub dash : Text
 dash = 45 ∷ []
 
 -- rising ranges from 1 up with `,` between, or `-` for an empty set
-unfoldable pub pagesOf : Text → Answer (List Range)
-pagesOf t = cond (isText dash t) (done []) (rising 0 (split 44 t))
+unfoldable pub pages_of : Text → Answer (List Range)
+pages_of t = cond (is_text dash t) (done []) (rising 0 (split 44 t))

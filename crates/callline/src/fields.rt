@@ -1,9 +1,9 @@
 // The fields of a call list line, word by word: a key with its `=`, and a value.
 ghost use Rattle.std.specs.Prelude.{◌≡◌, ◌<◌, ◌≤◌, true, false, length};
-ghost use Rattle.std.specs.Answers.{done};
-ghost use Rattle.callline.specs.Values.{identifierOf, decimalOf, pagesOf};
+ghost use Rattle.basics.specs.Answers.{done};
+ghost use Rattle.callline.specs.Values.{identifier_of, decimal_of, pages_of};
 ghost use Rattle.callline.specs.Lines.{field};
-ghost use Rattle.callline.specs.Says.{both, read_on, is_over, InForm, fieldSays, placeSays, pagesSays};
+ghost use Rattle.callline.specs.Says.{both, read_on, is_over, InForm, field_says, place_says, pages_says};
 
 use crate::values::Number;
 use crate::{texts, values};
@@ -56,7 +56,7 @@ fn no_field() -> Field
 
 // Where the value of the next word stands, if that word begins with the key.
 pub fn value_place(line: &[u8], c: Cursor, key: &[u8]) -> Place
-    ensures result_value { placeSays line.now result ≡ read_on line.now c (field key.now done both) }
+    ensures result_value { place_says line.now result ≡ read_on line.now c (field key.now done both) }
     ensures from_le_to { (result.from ≤ result.to) × (result.to ≤ length line.now) }
 {
     if !c.good {
@@ -80,7 +80,7 @@ pub fn value_place(line: &[u8], c: Cursor, key: &[u8]) -> Place
 
 // The identifier that the next word gives to the key.
 pub fn identifier(line: &[u8], c: Cursor, key: &[u8]) -> Field
-    ensures result_value { fieldSays line.now result ≡ read_on line.now c (field key.now identifierOf both) }
+    ensures result_value { field_says line.now result ≡ read_on line.now c (field key.now identifier_of both) }
     ensures value_bound { result.value < 256 }
 {
     let p = value_place(line, c, key);
@@ -101,7 +101,7 @@ pub fn identifier(line: &[u8], c: Cursor, key: &[u8]) -> Field
 
 // The decimal up to the limit that the next word gives to the key.
 pub fn decimal(line: &[u8], c: Cursor, key: &[u8], limit: u64) -> Field
-    ensures result_value { fieldSays line.now result ≡ read_on line.now c (field key.now (decimalOf limit) both) }
+    ensures result_value { field_says line.now result ≡ read_on line.now c (field key.now (decimal_of limit) both) }
     ensures value_le_limit { result.value ≤ limit }
 {
     let p = value_place(line, c, key);
@@ -122,7 +122,7 @@ pub fn decimal(line: &[u8], c: Cursor, key: &[u8], limit: u64) -> Field
 
 // Where the pages stand that the next word gives to the key.
 pub fn pages(line: &[u8], c: Cursor, key: &[u8]) -> Place
-    ensures result_value { pagesSays line.now result ≡ read_on line.now c (field key.now pagesOf both) }
+    ensures result_value { pages_says line.now result ≡ read_on line.now c (field key.now pages_of both) }
     ensures in_form { result.good ≡ true → InForm line.now result.from result.to }
 {
     let p = value_place(line, c, key);

@@ -4,8 +4,8 @@ pub mod texts;
 pub mod values;
 
 ghost use Rattle.std.specs.Prelude.{◌≡◌};
-ghost use Rattle.callline.specs.Lines.{openOf, snapOf, saveOf, findOf, fetchOf, pullOf, meaning};
-ghost use Rattle.callline.specs.Says.{read_on, lineSays, Placed};
+ghost use Rattle.callline.specs.Lines.{open_of, snap_of, save_of, find_of, fetch_of, pull_of, meaning};
+ghost use Rattle.callline.specs.Says.{read_on, line_says, Placed};
 
 use crate::fields::Cursor;
 use crate::values::LAST_U32;
@@ -59,7 +59,7 @@ pub enum Line {
 
 // op=open vid= local= remote=, behind its first word.
 fn parse_open(line: &[u8], op: Cursor) -> Line
-    ensures result_value { lineSays line.now result ≡ read_on line.now op openOf }
+    ensures result_value { line_says line.now result ≡ read_on line.now op open_of }
     ensures placed { Placed line.now result }
 {
     let vid = fields::identifier(line, op, b"vid=");
@@ -77,7 +77,7 @@ fn parse_open(line: &[u8], op: Cursor) -> Line
 
 // op=snap vid= slot=, behind its first word.
 fn parse_snap(line: &[u8], op: Cursor) -> Line
-    ensures result_value { lineSays line.now result ≡ read_on line.now op snapOf }
+    ensures result_value { line_says line.now result ≡ read_on line.now op snap_of }
     ensures placed { Placed line.now result }
 {
     let vid = fields::identifier(line, op, b"vid=");
@@ -93,7 +93,7 @@ fn parse_snap(line: &[u8], op: Cursor) -> Line
 
 // op=save vid= slot= count= sid= pages=, behind its first word.
 fn parse_save(line: &[u8], op: Cursor) -> Line
-    ensures result_value { lineSays line.now result ≡ read_on line.now op saveOf }
+    ensures result_value { line_says line.now result ≡ read_on line.now op save_of }
     ensures placed { Placed line.now result }
 {
     let vid = fields::identifier(line, op, b"vid=");
@@ -120,7 +120,7 @@ fn parse_save(line: &[u8], op: Cursor) -> Line
 
 // op=find slot= page=, behind its first word.
 fn parse_find(line: &[u8], op: Cursor) -> Line
-    ensures result_value { lineSays line.now result ≡ read_on line.now op findOf }
+    ensures result_value { line_says line.now result ≡ read_on line.now op find_of }
     ensures placed { Placed line.now result }
 {
     let slot = fields::decimal(line, op, b"slot=", LAST_SLOT);
@@ -136,7 +136,7 @@ fn parse_find(line: &[u8], op: Cursor) -> Line
 
 // op=fetch log= lsn= count= sid= pages=, behind its first word.
 fn parse_fetch(line: &[u8], op: Cursor) -> Line
-    ensures result_value { lineSays line.now result ≡ read_on line.now op fetchOf }
+    ensures result_value { line_says line.now result ≡ read_on line.now op fetch_of }
     ensures placed { Placed line.now result }
 {
     let log = fields::identifier(line, op, b"log=");
@@ -163,7 +163,7 @@ fn parse_fetch(line: &[u8], op: Cursor) -> Line
 
 // op=pull vid=, behind its first word.
 fn parse_pull(line: &[u8], op: Cursor) -> Line
-    ensures result_value { lineSays line.now result ≡ read_on line.now op pullOf }
+    ensures result_value { line_says line.now result ≡ read_on line.now op pull_of }
     ensures placed { Placed line.now result }
 {
     let vid = fields::identifier(line, op, b"vid=");
@@ -177,7 +177,7 @@ fn parse_pull(line: &[u8], op: Cursor) -> Line
 
 // The call that a line names and the values of its keys, or that the line is not in the form.
 pub fn parse(line: &[u8]) -> Line
-    ensures result_value { lineSays line.now result ≡ meaning line.now }
+    ensures result_value { line_says line.now result ≡ meaning line.now }
     ensures placed { Placed line.now result }
 {
     if LINE_BYTES < line.len() {

@@ -1,6 +1,6 @@
 // Texts taken apart: where a piece ends, and what a text begins with.
 ghost use Rattle.std.specs.Prelude.{◌≡◌, ◌+◌, ◌≤◌, length, drop};
-ghost use Rattle.callline.specs.Texts.{before, starts, isText};
+ghost use Rattle.callline.specs.Texts.{before, starts, is_text};
 
 // Where the piece that starts at a place ends: at the next byte that equals `sep`, or at the end of the text.
 pub fn piece_end(s: &[u8], at: usize, sep: u8) -> usize
@@ -36,7 +36,7 @@ pub fn starts_with(s: &[u8], key: &[u8]) -> bool
 
 // Whether two texts are the same.
 pub fn is_text(s: &[u8], key: &[u8]) -> bool
-    ensures { result ≡ isText key.now s.now }
+    ensures { result ≡ is_text key.now s.now }
 {
     if s.len() != key.len() {
         return false;

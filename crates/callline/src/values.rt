@@ -1,7 +1,7 @@
 // The values of a call list line: identifiers, decimals, ranges of pages. Each function judges a whole text.
 ghost use Rattle.std.specs.Prelude.{◌≡◌, ◌<◌, ◌≤◌};
-ghost use Rattle.callline.specs.Values.{hexDigit, identifierOf, leads, decimalOf, range_of, pagesOf};
-ghost use Rattle.callline.specs.Says.{numberSays, rangeSays, isDone};
+ghost use Rattle.callline.specs.Values.{hex_digit, identifier_of, leads, decimal_of, range_of, pages_of};
+ghost use Rattle.callline.specs.Says.{number_says, range_says, is_done};
 
 use crate::texts;
 
@@ -24,7 +24,7 @@ pub enum Pages {
 
 // The value of a digit of lower case hex; 16 for any other byte.
 fn hex_digit(b: u8) -> u64
-    ensures { (result ≡ hexDigit b) × (result ≤ 16) }
+    ensures { (result ≡ hex_digit b) × (result ≤ 16) }
 {
     if b < 48 {
         return 16;
@@ -43,7 +43,7 @@ fn hex_digit(b: u8) -> u64
 
 // An identifier's last byte, from two hex digits.
 pub fn identifier(s: &[u8]) -> Number
-    ensures { numberSays result ≡ identifierOf s.now }
+    ensures { number_says result ≡ identifier_of s.now }
 {
     if s.len() != 2 {
         return Number::Malformed;
@@ -74,7 +74,7 @@ fn has_lead(s: &[u8]) -> bool
 
 // A decimal without leading zeros that is at most the limit. A number too large is refused before it is made.
 pub fn decimal(s: &[u8], limit: u64) -> Number
-    ensures { numberSays result ≡ decimalOf limit s.now }
+    ensures { number_says result ≡ decimal_of limit s.now }
 {
     if !has_lead(s) {
         return Number::Malformed;
@@ -104,7 +104,7 @@ pub fn decimal(s: &[u8], limit: u64) -> Number
 
 // A range of pages: a page alone, or two with `-` between.
 pub fn range(s: &[u8]) -> Pages
-    ensures { rangeSays result ≡ range_of s.now }
+    ensures { range_says result ≡ range_of s.now }
 {
     let mid = texts::piece_end(s, 0, 45);
     let Number::Is(a) = decimal(&s[0..mid], LAST_U32) else {
@@ -126,7 +126,7 @@ pub fn range(s: &[u8]) -> Pages
 
 // Whether a text is `-` or rising ranges from 1 up.
 pub fn is_pages(s: &[u8]) -> bool
-    ensures { result ≡ isDone (pagesOf s.now) }
+    ensures { result ≡ is_done (pages_of s.now) }
 {
     if texts::is_text(s, b"-") {
         return true;

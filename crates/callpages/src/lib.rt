@@ -1,14 +1,14 @@
 // The pages of a call list line as a set: built by windows, range by range, and never page by page.
 ghost use Rattle.std.specs.Prelude.{◌≡◌, ◌<◌, ◌≤◌, true, ◌||◌};
-ghost use Rattle.std.specs.Answers.{done};
+ghost use Rattle.basics.specs.Answers.{done};
 ghost use Rattle.pageset.specs.Sets.{member, normal};
 ghost use Rattle.pageset.specs.Rules.{within};
 ghost use Rattle.pageset.specs.Says.{GivesOr22};
-ghost use Rattle.callpages.specs.Pages.{pagesRule};
+ghost use Rattle.callpages.specs.Pages.{pages_rule};
 
 use callline::values::Pages;
 use callline::{texts, values};
-use core::pageidx::PageIdx;
+use basics::pageidx::PageIdx;
 use pageset::{PageSet, SetAnswer, sets};
 
 // A set with the pages of a range, or 22.
@@ -26,7 +26,7 @@ fn with_range(s: PageSet, first: PageIdx, last: PageIdx) -> SetAnswer
 
 // The set of the pages that a text names: 24 for a text that is not in the form, then 22.
 pub fn page_set(text: &[u8]) -> SetAnswer
-    ensures { GivesOr22 result (pagesRule text.now) }
+    ensures { GivesOr22 result (pages_rule text.now) }
 {
     if !values::is_pages(text) {
         return sets::refusal(24);

@@ -3,7 +3,7 @@ use Rattle.std.specs.Prelude.{◌≡◌, ℕ, List, [], ◌∷◌, ◌++◌, len
 use Rattle.std.proofs.Math.Option.{Option}
 use Rattle.octets.specs.Bytes.{put}
 use Rattle.callline.specs.Texts.{Text}
-use Rattle.calltext.specs.Output.{outputLine}
+use Rattle.calltext.specs.Output.{output_line}
 use Rattle.callstep.specs.Testers.{Tester}
 use Rattle.callstep.specs.Steps.{Steps}
 
@@ -12,5 +12,5 @@ pub record Prints (t : Tester) (line : Text) (number : ℕ) (out : List ℕ) (n 
   pub code : ℕ
   pub head : Option (ℕ × ℕ)
   pub steps : Steps t line (record { code = code; head = head; tester = left })
-  pub bytes : out' ≡ put 0 (outputLine number code head ++ (10 ∷ [])) out
-  pub long : n ≡ length (outputLine number code head ++ (10 ∷ []))
+  pub bytes : out' ≡ put 0 (output_line number code head ++ (10 ∷ [])) out
+  pub long : n ≡ length (output_line number code head ++ (10 ∷ []))

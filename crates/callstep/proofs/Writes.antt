@@ -1,46 +1,46 @@
 -- The write of a commit's bytes is the rule's: 1 for LSN 0, and else the commit is in form.
 use Rattle.std.proofs.Common.{◌≡◌, ℕ, Bool, true, false, ◌&&◌, eqb, List, length, sym, refl, ap, ◌∙◌, eq-eqb}
-use Rattle.std.specs.Answers.{refused, ask, ◌>>◌}
+use Rattle.basics.specs.Answers.{refused, ask, ◌>>◌}
 use Rattle.rules.specs.Records as R
-use Rattle.rules.specs.Forms.{commitForm}
-use Rattle.rules.specs.Arguments.{commitLsns}
-use Rattle.rules.specs.Write.{Logs, logsFormed, writeCommit}
-use Rattle.rules.proofs.TableLaws.{cases, and-fst, and-snd, and_both}
-use Rattle.layout.specs.Codecs.{Holds, inForm}
-use Rattle.layout.specs.Records.{commitBytes}
-use Rattle.layout.specs.Tables.{commitsOk, checkpointsOk, indexOk}
+use Rattle.rules.specs.Forms.{commit_form}
+use Rattle.rules.specs.Arguments.{commit_lsns}
+use Rattle.rules.specs.Write.{Logs, logs_formed, write_commit}
+use Rattle.rules.proofs.TableLaws.{cases, and_fst, and_snd, and_both}
+use Rattle.layout.specs.Codecs.{Holds, in_form}
+use Rattle.layout.specs.Records.{commit_bytes}
+use Rattle.layout.specs.Tables.{commits_ok, checkpoints_ok, index_ok}
 use Rattle.layout.specs.Lent.{lent}
 use Rattle.layout.proofs.HoldLaws as H
-use Rattle.layout.proofs.LentLaws.{lent-no}
-use Rattle.rows.proofs.Rows.{formed-rules}
-use Rattle.rows.proofs.Tables.{commits, checkpoints, index, commit-size}
-use Rattle.writecalls.specs.Written.{logsIn, logsOk, writeIn}
+use Rattle.layout.proofs.LentLaws.{lent_no}
+use Rattle.rows.proofs.Rows.{formed_rules}
+use Rattle.rows.proofs.Tables.{commits, checkpoints, index, commit_size}
+use Rattle.writecalls.specs.Written.{logs_in, logs_ok, write_in}
 
-logs-formed : (t u w : List ℕ) → logsOk t u w ≡ true → logsFormed (logsIn t u w) ≡ true
-unfolding logsOk logsFormed
-logs-formed t u w ok =
-    let tu = and-fst (commitsOk t && checkpointsOk u) (indexOk w) ok in
-    and_both (and_both (formed-rules commits t (and-fst (commitsOk t) (checkpointsOk u) tu)) (formed-rules checkpoints u (and-snd (commitsOk t) (checkpointsOk u) tu)))
-    (formed-rules index w (and-snd (commitsOk t && checkpointsOk u) (indexOk w) ok))
+logs_formed_lem : (t u w : List ℕ) → logs_ok t u w ≡ true → logs_formed (logs_in t u w) ≡ true
+unfolding logs_ok logs_formed
+logs_formed_lem t u w ok =
+    let tu = and_fst (commits_ok t && checkpoints_ok u) (index_ok w) ok in
+    and_both (and_both (formed_rules commits t (and_fst (commits_ok t) (checkpoints_ok u) tu)) (formed_rules checkpoints u (and_snd (commits_ok t) (checkpoints_ok u) tu)))
+    (formed_rules index w (and_snd (commits_ok t && checkpoints_ok u) (index_ok w) ok))
 
-module _ (g : Logs) (c : R.Commit) (h : Holds commitBytes c) (f : commitLsns c ≡ true → commitForm c ≡ true) (lf : logsFormed g ≡ true) where
-  no-lsn : commitLsns c ≡ false → writeCommit g c ≡ refused 1
-  unfolding writeCommit
-  no-lsn e = rw (lf, e)
+module _ (g : Logs) (c : R.Commit) (h : Holds commit_bytes c) (f : commit_lsns c ≡ true → commit_form c ≡ true) (lf : logs_formed g ≡ true) where
+  no_lsn : commit_lsns c ≡ false → write_commit g c ≡ refused 1
+  unfolding write_commit
+  no_lsn e = rw (lf, e)
 
-  by-lsns : (b : Bool) → commitLsns c ≡ b → (ask b 1 >> (ask (inForm commitBytes commitForm (commitBytes.spell c)) 3 >> writeCommit g c)) ≡ writeCommit g c
-  by-lsns true e = ap (λ (x : Bool). ask x 3 >> writeCommit g c) (H.held-form commitBytes commitForm h (f e))
-  by-lsns false e = sym (no-lsn e)
+  by_lsns : (b : Bool) → commit_lsns c ≡ b → (ask b 1 >> (ask (in_form commit_bytes commit_form (commit_bytes.spell c)) 3 >> write_commit g c)) ≡ write_commit g c
+  by_lsns true e = ap (λ (x : Bool). ask x 3 >> write_commit g c) (H.held_form commit_bytes commit_form h (f e))
+  by_lsns false e = sym (no_lsn e)
 
-  write-in : writeIn g (commitBytes.spell c) ≡ writeCommit g c
-  unfolding writeIn
-  write-in =
-      let s : eqb (length (commitBytes.spell c)) 722 ≡ true = eq-eqb (length (commitBytes.spell c)) 722 (h.long ∙ commit-size) in
-      rw (s, h.back) (by-lsns (commitLsns c) refl)
+  write_in_lem : write_in g (commit_bytes.spell c) ≡ write_commit g c
+  unfolding write_in
+  write_in_lem =
+      let s : eqb (length (commit_bytes.spell c)) 722 ≡ true = eq-eqb (length (commit_bytes.spell c)) 722 (h.long ∙ commit_size) in
+      rw (s, h.back) (by_lsns (commit_lsns c) refl)
 
 -- on lent bytes, 20 first
-pub write_same : (t u w : List ℕ) (c : R.Commit) → Holds commitBytes c → (commitLsns c ≡ true → commitForm c ≡ true)
-    → lent (logsOk t u w) (writeIn (logsIn t u w) (commitBytes.spell c)) ≡ lent (logsOk t u w) (writeCommit (logsIn t u w) c)
+pub write_same : (t u w : List ℕ) (c : R.Commit) → Holds commit_bytes c → (commit_lsns c ≡ true → commit_form c ≡ true)
+    → lent (logs_ok t u w) (write_in (logs_in t u w) (commit_bytes.spell c)) ≡ lent (logs_ok t u w) (write_commit (logs_in t u w) c)
 write_same t u w c h f =
-    cases (logsOk t u w) (λ ok. ap (lent (logsOk t u w)) (write-in (logsIn t u w) c h f (logs-formed t u w ok)))
-    (λ no. lent-no (logsOk t u w) (writeIn (logsIn t u w) (commitBytes.spell c)) no ∙ sym (lent-no (logsOk t u w) (writeCommit (logsIn t u w) c) no))
+    cases (logs_ok t u w) (λ ok. ap (lent (logs_ok t u w)) (write_in_lem (logs_in t u w) c h f (logs_formed_lem t u w ok)))
+    (λ no. lent_no (logs_ok t u w) (write_in (logs_in t u w) (commit_bytes.spell c)) no ∙ sym (lent_no (logs_ok t u w) (write_commit (logs_in t u w) c) no))

@@ -1,32 +1,32 @@
 // The six calls of a call list, each on the bytes that it is lent and the values of its line.
 ghost use Rattle.std.specs.Prelude.{◌≡◌, ◌≤◌, true, length};
 ghost use Rattle.std.proofs.Math.Option.{none};
-ghost use Rattle.std.specs.Answers.{code};
+ghost use Rattle.basics.specs.Answers.{code};
 ghost use Rattle.rules.specs.Records.{Volume};
 ghost use Rattle.rules.specs.Tables.{Table};
-ghost use Rattle.layout.specs.Records.{volumeBytes};
+ghost use Rattle.layout.specs.Records.{volume_bytes};
 ghost use Rattle.layout.specs.Lent.{after};
-ghost use Rattle.callline.specs.Values.{pagesOf};
-ghost use Rattle.callline.specs.Says.{isDone};
-ghost use Rattle.callvalues.specs.Slots.{slotsAfter};
+ghost use Rattle.callline.specs.Values.{pages_of};
+ghost use Rattle.callline.specs.Says.{is_done};
+ghost use Rattle.callvalues.specs.Slots.{slots_after};
 ghost use Rattle.callvalues.specs.Values.{id_of};
 ghost use Rattle.callstep.specs.Testers.{Tester};
-ghost use Rattle.callstep.specs.Steps.{openOn, snapOn, snapHead, findOn, foundHead, pullOn};
-ghost use Rattle.callstep.specs.Says.{printedSays, Saves, Fetches};
+ghost use Rattle.callstep.specs.Steps.{open_on, snap_on, snap_head, find_on, found_head, pull_on};
+ghost use Rattle.callstep.specs.Says.{printed_says, Saves, Fetches};
 
 use super::Printed;
 use callpages::page_set;
 use calltext::Head;
 use callvalues::made::id_of;
 use callvalues::{made, slots};
-use core::lsn::Lsn;
-use core::page_count::PageCount;
-use core::pageidx::PageIdx;
+use basics::lsn::Lsn;
+use basics::page_count::PageCount;
+use basics::pageidx::PageIdx;
 use opencalls::Wanted;
 
 // A code, and no commit.
 pub fn coded(code: u32) -> Printed
-    ensures { printedSays result ≡ (code, none) }
+    ensures { printed_says result ≡ (code, none) }
 {
     Printed {
         code,
@@ -48,8 +48,8 @@ fn asked(last: u8) -> Wanted
 
 // op=open
 pub fn open(volumes: &mut [u8], commits: &[u8], vid: u8, local: u8, remote: u8) -> u32
-    ensures value { result ≡ code (openOn volumes.old commits.now vid local remote) }
-    ensures volumes_after { volumes.new ≡ after volumeBytes (λ (x : Volume × Table Volume). x.1) volumes.old (openOn volumes.old commits.now vid local remote) }
+    ensures value { result ≡ code (open_on volumes.old commits.now vid local remote) }
+    ensures volumes_after { volumes.new ≡ after volume_bytes (λ (x : Volume × Table Volume). x.1) volumes.old (open_on volumes.old commits.now vid local remote) }
 {
     let mut out = [0u8; 117];
     opencalls::open(
@@ -65,8 +65,8 @@ pub fn open(volumes: &mut [u8], commits: &[u8], vid: u8, local: u8, remote: u8) 
 // op=snap
 pub fn snap(volumes: &[u8], commits: &[u8], slots: &mut [u8], vid: u8, slot: u8) -> Printed
     requires { (slot ≤ 3) × (length slots.old ≡ 1052) }
-    ensures result_value { printedSays result ≡ (code (snapOn volumes.now commits.now vid), snapHead (snapOn volumes.now commits.now vid)) }
-    ensures slots_after { slots.new ≡ slotsAfter slot slots.old (snapOn volumes.now commits.now vid) }
+    ensures result_value { printed_says result ≡ (code (snap_on volumes.now commits.now vid), snap_head (snap_on volumes.now commits.now vid)) }
+    ensures slots_after { slots.new ≡ slots_after slot slots.old (snap_on volumes.now commits.now vid) }
 {
     let a = viewcalls::snapshot(volumes, commits, id_of(vid));
     let refusal = a.code;
@@ -95,7 +95,7 @@ pub fn save(
     sid: u8,
     text: &[u8],
 ) -> Printed
-    requires { (slot ≤ 3) × (length slots.now ≡ 1052) × (isDone (pagesOf text.now) ≡ true) }
+    requires { (slot ≤ 3) × (length slots.now ≡ 1052) × (is_done (pages_of text.now) ≡ true) }
     ensures { Saves (record { volumes = volumes.entry.now; commits = commits.old; checkpoints = checkpoints.old; index = index.old; presence = presence.old; slots = slots.now }) vid slot count sid text.now result (record { volumes = volumes.entry.now; commits = commits.new; checkpoints = checkpoints.new; index = index.new; presence = presence.new; slots = slots.now }) }
 {
     let pages = page_set(text);
@@ -135,7 +135,7 @@ pub fn save(
 // op=find
 pub fn find(commits: &[u8], index: &[u8], slots: &[u8], slot: u8, page: u32) -> Printed
     requires { (slot ≤ 3) × (length slots.now ≡ 1052) }
-    ensures { printedSays result ≡ (code (findOn commits.now index.now slots.now slot page), foundHead (findOn commits.now index.now slots.now slot page)) }
+    ensures { printed_says result ≡ (code (find_on commits.now index.now slots.now slot page), found_head (find_on commits.now index.now slots.now slot page)) }
 {
     if !slots::is_set(slots, slot) {
         return coded(24);
@@ -163,7 +163,7 @@ pub fn fetch(
     sid: u8,
     text: &[u8],
 ) -> u32
-    requires { isDone (pagesOf text.now) ≡ true }
+    requires { is_done (pages_of text.now) ≡ true }
     ensures { Fetches commits.old checkpoints.old index.old log lsn count sid text.now result commits.new checkpoints.new index.new }
 {
     let pages = page_set(text);
@@ -178,8 +178,8 @@ pub fn fetch(
 
 // op=pull
 pub fn pull(volumes: &mut [u8], commits: &[u8], vid: u8) -> u32
-    ensures value { result ≡ code (pullOn volumes.old commits.now vid) }
-    ensures volumes_after { volumes.new ≡ after volumeBytes (λ (x : Table Volume). x) volumes.old (pullOn volumes.old commits.now vid) }
+    ensures value { result ≡ code (pull_on volumes.old commits.now vid) }
+    ensures volumes_after { volumes.new ≡ after volume_bytes (λ (x : Table Volume). x) volumes.old (pull_on volumes.old commits.now vid) }
 {
     synccalls::sync(volumes, commits, id_of(vid))
 }

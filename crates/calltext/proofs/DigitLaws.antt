@@ -13,24 +13,24 @@ use lib.Seq.{drop-cons, get_or-set_same, drop-set-lt, take_all}
 use Rattle.calltext.specs.Output.{digits, decimal}
 
 -- a byte stored before those at the end
-before-end : (l : List ℕ) (k d : ℕ) → k < length l → drop k (set l k d) ≡ d ∷ drop (suc k) l
-before-end l k d h =
+before_end : (l : List ℕ) (k d : ℕ) → k < length l → drop k (set l k d) ≡ d ∷ drop (suc k) l
+before_end l k d h =
     let g : k < length (set l k d) = rw (length-set l k d) h in
     drop-cons (set l k d) k 0 g ∙ rw (get_or-set_same l k d 0 h, drop-set-lt (suc k) l k d (omega arith))
 
 pub turn : (a k r : ℕ) (l : List ℕ) → a ≡ suc k → k < length l → 10 ≤ r → digits a r ++ drop a l ≡ digits k (r / 10) ++ drop k (set l k (48 + r % 10))
 unfolding digits
-turn a k r l e h g = rw (e, le-ltb r 10 g, before-end l k (48 + r % 10) h, append_assoc)
+turn a k r l e h g = rw (e, le-ltb r 10 g, before_end l k (48 + r % 10) h, append_assoc)
 
-pub last-digit : (a k r : ℕ) (l : List ℕ) → a ≡ suc k → k < length l → r < 10 → digits a r ++ drop a l ≡ drop k (set l k (48 + r))
+pub last_digit : (a k r : ℕ) (l : List ℕ) → a ≡ suc k → k < length l → r < 10 → digits a r ++ drop a l ≡ drop k (set l k (48 + r))
 unfolding digits
-last-digit a k r l e h g = rw (e, lt-ltb r 10 g, before-end l k (48 + r) h)
+last_digit a k r l e h g = rw (e, lt-ltb r 10 g, before_end l k (48 + r) h)
 
 -- a number of two digits has room for two
-pub two-left : (a r : ℕ) → r < 10 ^ a → 10 ≤ r → 1 < a
-two-left zero r h g = absurd (omega arith)
-two-left (suc zero) r h g = absurd (omega arith)
-two-left (suc (suc a)) r h g = omega arith
+pub two_left : (a r : ℕ) → r < 10 ^ a → 10 ≤ r → 1 < a
+two_left zero r h g = absurd (omega arith)
+two_left (suc zero) r h g = absurd (omega arith)
+two_left (suc (suc a)) r h g = omega arith
 
 pub tenth : (a k r : ℕ) → a ≡ suc k → r < 10 ^ a → r / 10 < 10 ^ k
 tenth a k r e h = let g : r < 10 ^ suc k = rw (← e) h in omega (arith, pow-suc 10 k)

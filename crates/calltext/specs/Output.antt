@@ -12,22 +12,22 @@ unfoldable pub decimal : ℕ → List ℕ
 decimal n = digits 20 n
 
 -- a digit of lower case hex
-unfoldable pub hexByte : ℕ → ℕ
-hexByte d = cond (ltb d 10) (48 + d) (87 + d)
+unfoldable pub hex_byte : ℕ → ℕ
+hex_byte d = cond (ltb d 10) (48 + d) (87 + d)
 
 -- the last byte of an identifier as two hex digits
-abbrev pub hexPair : ℕ → List ℕ
-hexPair b = hexByte (b / 16) ∷ hexByte (b % 16) ∷ []
+abbrev pub hex_pair : ℕ → List ℕ
+hex_pair b = hex_byte (b / 16) ∷ hex_byte (b % 16) ∷ []
 
 -- `-` where there is no commit
-abbrev pub logText : Option (ℕ × ℕ) → List ℕ
-logText none = 45 ∷ []
-logText (some h) = hexPair h.0
+abbrev pub log_text : Option (ℕ × ℕ) → List ℕ
+log_text none = 45 ∷ []
+log_text (some h) = hex_pair h.0
 
 -- and 0
-abbrev pub lsnOf : Option (ℕ × ℕ) → ℕ
-lsnOf none = 0
-lsnOf (some h) = h.1
+abbrev pub lsn_of : Option (ℕ × ℕ) → ℕ
+lsn_of none = 0
+lsn_of (some h) = h.1
 
 -- the names of the values, each with its `=`
 abbrev pub line= : List ℕ
@@ -43,5 +43,5 @@ abbrev pub lsn= : List ℕ
 lsn= = 32 ∷ 108 ∷ 115 ∷ 110 ∷ 61 ∷ []
 
 -- line=N code=C log=HH lsn=N
-unfoldable pub outputLine : ℕ → ℕ → Option (ℕ × ℕ) → List ℕ
-outputLine n c h = ((((((line= ++ decimal n) ++ code=) ++ decimal c) ++ log=) ++ logText h) ++ lsn=) ++ decimal (lsnOf h)
+unfoldable pub output_line : ℕ → ℕ → Option (ℕ × ℕ) → List ℕ
+output_line n c h = ((((((line= ++ decimal n) ++ code=) ++ decimal c) ++ log=) ++ log_text h) ++ lsn=) ++ decimal (lsn_of h)

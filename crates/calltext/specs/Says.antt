@@ -4,6 +4,6 @@ use Rattle.std.proofs.Math.Option.{Option, none, some}
 use Rattle.calltext.specs.declared.Head.{Head}
 use Rattle.calltext.specs.declared.Head.TheVariants as Head
 
-abbrev pub headSays : Head → Option (ℕ × ℕ)
-headSays Head.Nothing = none
-headSays (Head.At b n) = some (b, n)
+abbrev pub head_says : Head → Option (ℕ × ℕ)
+head_says Head.Nothing = none
+head_says (Head.At b n) = some (b, n)

@@ -1,8 +1,8 @@
 // The lines that the call list program prints, into lent bytes.
 ghost use Rattle.std.specs.Prelude.{◌≡◌, cond, ◌+◌, ◌≤◌, ◌<◌, ltb, length, drop};
 ghost use Rattle.octets.specs.Bytes.{put};
-ghost use Rattle.calltext.specs.Output.{decimal, hexByte, logText, lsnOf, outputLine};
-ghost use Rattle.calltext.specs.Says.{headSays};
+ghost use Rattle.calltext.specs.Output.{decimal, hex_byte, log_text, lsn_of, output_line};
+ghost use Rattle.calltext.specs.Says.{head_says};
 
 // The bytes that a printed line may need, and some to spare.
 pub const LINE_ROOM: usize = 96;
@@ -53,7 +53,7 @@ fn put_decimal(out: &mut [u8], at: usize, n: u64) -> usize
 // A digit of lower case hex.
 fn hex_byte(d: u8) -> u8
     requires { d < 16 }
-    ensures { result ≡ hexByte d }
+    ensures { result ≡ hex_byte d }
 {
     if d < 10 {
         return 48 + d;
@@ -64,7 +64,7 @@ fn hex_byte(d: u8) -> u8
 // A head's log over the bytes at a place, `-` where there is none; answers the place behind it.
 fn put_log(out: &mut [u8], at: usize, head: Head) -> usize
     requires { at + 2 ≤ length out.old }
-    ensures { (out.new ≡ put at (logText (headSays head)) out.old) × (result ≡ at + length (logText (headSays head))) × (length (logText (headSays head)) ≤ 2) }
+    ensures { (out.new ≡ put at (log_text (head_says head)) out.old) × (result ≡ at + length (log_text (head_says head))) × (length (log_text (head_says head)) ≤ 2) }
 {
     let Head::At(b, _) = head else {
         octets::store_all(out, at, b"-");
@@ -79,7 +79,7 @@ fn put_log(out: &mut [u8], at: usize, head: Head) -> usize
 
 // A head's LSN, 0 where there is none.
 fn lsn_of(head: Head) -> u64
-    ensures { result ≡ lsnOf (headSays head) }
+    ensures { result ≡ lsn_of (head_says head) }
 {
     match head {
         Head::Nothing => 0,
@@ -89,8 +89,8 @@ fn lsn_of(head: Head) -> u64
 
 // A printed line over the first bytes of `out`; answers how many they are. Where `out` is shorter than LINE_ROOM it stays as found, and the answer is 0.
 pub fn write_line(out: &mut [u8], number: u64, code: u32, head: Head) -> usize
-    ensures out_after { out.new ≡ cond (ltb (length out.old) 96) out.old (put 0 (outputLine number code (headSays head)) out.old) }
-    ensures value { result ≡ cond (ltb (length out.old) 96) 0 (length (outputLine number code (headSays head))) }
+    ensures out_after { out.new ≡ cond (ltb (length out.old) 96) out.old (put 0 (output_line number code (head_says head)) out.old) }
+    ensures value { result ≡ cond (ltb (length out.old) 96) 0 (length (output_line number code (head_says head))) }
 {
     if out.len() < LINE_ROOM {
         return 0;

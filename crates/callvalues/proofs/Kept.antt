@@ -11,12 +11,12 @@ stored n xs s h =
     rw (← append_assoc (take n s) xs (drop (n + length xs) s)) (take_at (take n s ++ xs) (drop (n + length xs) s) (n + length xs) l)
 
 -- all of a piece, where there is room for it
-pub kept-all : (n : ℕ) (xs s t : List ℕ) → n + length xs ≤ 257 → t ≡ put n xs s → t ≡ put n (take (257 - n) xs) s
-kept-all n xs s t h e = e ∙ ap (λ (ys : List ℕ). put n ys s) (sym (take_all (257 - n) xs (omega arith)))
+pub kept_all : (n : ℕ) (xs s t : List ℕ) → n + length xs ≤ 257 → t ≡ put n xs s → t ≡ put n (take (257 - n) xs) s
+kept_all n xs s t h e = e ∙ ap (λ (ys : List ℕ). put n ys s) (sym (take_all (257 - n) xs (omega arith)))
 
 -- as much of it as there is room
-pub kept-some : (n k : ℕ) (xs s t : List ℕ) → k ≡ 257 - n → t ≡ put n (take k xs) s → t ≡ put n (take (257 - n) xs) s
-kept-some n k xs s t z e = e ∙ ap (λ (j : ℕ). put n (take j xs) s) z
+pub kept_some : (n k : ℕ) (xs s t : List ℕ) → k ≡ 257 - n → t ≡ put n (take k xs) s → t ≡ put n (take (257 - n) xs) s
+kept_some n k xs s t z e = e ∙ ap (λ (j : ℕ). put n (take j xs) s) z
 
 -- so the bytes kept are the first 257 of those kept before and the piece
 pub kept_line : (n r : ℕ) (xs s t : List ℕ) → length s ≡ 257 → n ≤ 257 → t ≡ put n (take (257 - n) xs) s → r ≡ min 257 (n + length xs) → take r t ≡ take 257 (take n s ++ xs)

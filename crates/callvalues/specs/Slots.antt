@@ -2,9 +2,9 @@
 use Rattle.std.specs.Prelude.{ℕ, ◌+◌, ◌*◌, Bool, cond, not, List, ◌∷◌, ◌==◌, slice_index}
 use Rattle.std.proofs.Math.Option.{Option, none, some}
 use Rattle.octets.specs.Bytes.{part, put}
-use Rattle.std.specs.Answers.{Answer, refused, done}
+use Rattle.basics.specs.Answers.{Answer, refused, done}
 use Rattle.rules.specs.Records.{Snapshot}
-use Rattle.layout.specs.Values.{snapshotBytes}
+use Rattle.layout.specs.Values.{snapshot_bytes}
 
 -- a slot holds a snapshot
 unfoldable pub is_set : List ℕ → ℕ → Bool
@@ -15,14 +15,14 @@ unfoldable pub held : List ℕ → ℕ → List ℕ
 held slots k = part (k * 263 + 1) 262 slots
 
 -- the snapshot of a slot, in bytes, if it is set
-abbrev pub slotIn : List ℕ → ℕ → Option (List ℕ)
-slotIn slots k = cond (is_set slots k) (some (held slots k)) none
+abbrev pub slot_in : List ℕ → ℕ → Option (List ℕ)
+slot_in slots k = cond (is_set slots k) (some (held slots k)) none
 
 -- a slot set to a snapshot
-unfoldable pub slotSet : ℕ → Snapshot → List ℕ → List ℕ
-slotSet k s slots = put (k * 263) (1 ∷ snapshotBytes.spell s) slots
+unfoldable pub slot_set : ℕ → Snapshot → List ℕ → List ℕ
+slot_set k s slots = put (k * 263) (1 ∷ snapshot_bytes.spell s) slots
 
 -- a slot is set by a successful snap only
-abbrev pub slotsAfter : ℕ → List ℕ → Answer Snapshot → List ℕ
-slotsAfter k slots (refused n) = slots
-slotsAfter k slots (done s) = slotSet k s slots
+abbrev pub slots_after : ℕ → List ℕ → Answer Snapshot → List ℕ
+slots_after k slots (refused n) = slots
+slots_after k slots (done s) = slot_set k s slots

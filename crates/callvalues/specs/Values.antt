@@ -17,6 +17,6 @@ shortly none = none
 shortly (some h) = some (slice_index h.0 15, h.1)
 
 -- the commit that was found
-abbrev pub commitHead : Option Commit → Option (ℕ × ℕ)
-commitHead none = none
-commitHead (some c) = some (slice_index c.log 15, c.lsn)
+abbrev pub commit_head : Option Commit → Option (ℕ × ℕ)
+commit_head none = none
+commit_head (some c) = some (slice_index c.log 15, c.lsn)

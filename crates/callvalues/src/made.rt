@@ -3,21 +3,21 @@ ghost use Rattle.std.specs.Prelude.{◌≡◌, true, length};
 ghost use Rattle.std.proofs.Math.Option.{some};
 ghost use Rattle.pageset.specs.Sets.{shown, normal};
 ghost use Rattle.volume.specs.Snapshots.{head_of};
-ghost use Rattle.layout.specs.Values.{setBytes};
-ghost use Rattle.layout.specs.Records.{commitBytes};
-ghost use Rattle.arguments.specs.Snapshots.{snapshotIn, headSays as saysHead};
-ghost use Rattle.commitbytes.specs.Laid.{commitLaid};
-ghost use Rattle.calltext.specs.Says.{headSays};
-ghost use Rattle.callvalues.specs.Values.{id_of, fetched, shortly, commitHead};
+ghost use Rattle.layout.specs.Values.{set_bytes};
+ghost use Rattle.layout.specs.Records.{commit_bytes};
+ghost use Rattle.arguments.specs.Snapshots.{snapshot_in, head_says as saysHead};
+ghost use Rattle.commitbytes.specs.Laid.{commit_laid};
+ghost use Rattle.calltext.specs.Says.{head_says};
+ghost use Rattle.callvalues.specs.Values.{id_of, fetched, shortly, commit_head};
 
 use arguments::snapshots::snapshot_arg;
 use calltext::Head;
 use commit::{Commit, SegmentIdx};
 use commitbytes::commit_write;
 use commitbytes::fields::{commit_log, commit_lsn};
-use core::id::{LogId, SegmentId};
-use core::lsn::Lsn;
-use core::page_count::PageCount;
+use basics::id::{LogId, SegmentId};
+use basics::lsn::Lsn;
+use basics::page_count::PageCount;
 use pageset::PageSet;
 use setbytes::set_write;
 use volume::volume::MaybeLsn;
@@ -34,7 +34,7 @@ pub fn id_of(last: u8) -> [u8; 16]
 // A set in its byte form.
 pub fn set_bytes(set: PageSet) -> [u8; 385]
     requires { normal set ≡ true }
-    ensures { result ≡ setBytes.spell (shown set) }
+    ensures { result ≡ set_bytes.spell (shown set) }
 {
     let mut bytes = [0u8; 385];
     set_write(&mut bytes, 0, set);
@@ -44,7 +44,7 @@ pub fn set_bytes(set: PageSet) -> [u8; 385]
 // The commit of a fetch.
 fn fetched_commit(log: LogId, lsn: Lsn, count: PageCount, sid: SegmentId, set: PageSet) -> Commit
     requires { normal set ≡ true }
-    ensures { result ≡ commitLaid (fetched log lsn.0 count.0 sid (shown set)) }
+    ensures { result ≡ commit_laid (fetched log lsn.0 count.0 sid (shown set)) }
 {
     Commit::new(log, lsn, count).with_segment_idx(SegmentIdx::new(sid, set))
 }
@@ -58,7 +58,7 @@ pub fn fetched_bytes(
     set: PageSet,
 ) -> [u8; 722]
     requires { normal set ≡ true }
-    ensures { result ≡ commitBytes.spell (fetched log lsn.0 count.0 sid (shown set)) }
+    ensures { result ≡ commit_bytes.spell (fetched log lsn.0 count.0 sid (shown set)) }
 {
     let c = fetched_commit(log, lsn, count, sid, set);
     let mut bytes = [0u8; 722];
@@ -68,7 +68,7 @@ pub fn fetched_bytes(
 
 // A snapshot's head as it is printed.
 pub fn short_head(head: volume::snapshot::Head) -> Head
-    ensures { headSays result ≡ shortly (saysHead head) }
+    ensures { head_says result ≡ shortly (saysHead head) }
 {
     let lsn = head.lsn;
     let MaybeLsn::At(n) = lsn else {
@@ -80,7 +80,7 @@ pub fn short_head(head: volume::snapshot::Head) -> Head
 
 // The head of a snapshot in bytes, as it is printed.
 pub fn snapshot_head(b: &[u8]) -> Head
-    ensures { headSays result ≡ shortly (head_of (snapshotIn b.now)) }
+    ensures { head_says result ≡ shortly (head_of (snapshot_in b.now)) }
 {
     short_head(snapshot_arg(b).head())
 }
@@ -88,7 +88,7 @@ pub fn snapshot_head(b: &[u8]) -> Head
 // The log and the LSN of a commit in bytes, as they are printed.
 pub fn commit_head(b: &[u8]) -> Head
     requires { length b.now ≡ 722 }
-    ensures { headSays result ≡ commitHead (some (commitBytes.read b.now)) }
+    ensures { head_says result ≡ commit_head (some (commit_bytes.read b.now)) }
 {
     let log = commit_log(b, 0);
     Head::At(log[15], commit_lsn(b, 0).0)

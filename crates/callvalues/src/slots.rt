@@ -1,7 +1,7 @@
 // The four slots that hold snapshots, 263 bytes each: a byte that is 0 while the slot is unset, and a snapshot.
 ghost use Rattle.std.specs.Prelude.{◌≡◌, ◌≤◌, true, length};
-ghost use Rattle.volume.specs.Snapshots.{snapshotSays, inForm};
-ghost use Rattle.callvalues.specs.Slots.{is_set, held as heldIn, slotSet};
+ghost use Rattle.volume.specs.Snapshots.{snapshot_says, in_form};
+ghost use Rattle.callvalues.specs.Slots.{is_set, held as heldIn, slot_set};
 
 use snapshotbytes::snapshot_write;
 use volume::snapshot::Snapshot;
@@ -33,8 +33,8 @@ pub fn held(slots: &[u8], slot: u8) -> [u8; 262]
 
 // A slot set to a snapshot.
 pub fn put(slots: &mut [u8], slot: u8, s: Snapshot)
-    requires { (slot ≤ 3) × (length slots.old ≡ 1052) × (inForm s ≡ true) }
-    ensures { slots.new ≡ slotSet slot (snapshotSays s) slots.old }
+    requires { (slot ≤ 3) × (length slots.old ≡ 1052) × (in_form s ≡ true) }
+    ensures { slots.new ≡ slot_set slot (snapshot_says s) slots.old }
 {
     let at = slot as usize * SLOT;
     octets::store8(slots, at, 1);

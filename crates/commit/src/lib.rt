@@ -1,15 +1,15 @@
 // Commits and segments by value, with builders that change one field and keep all others; and runs of a segment's bytes.
 ghost use Rattle.std.specs.Prelude.{◌≡◌};
-ghost use Rattle.std.specs.Hashes.{zeroHash};
-ghost use Rattle.commit.specs.Says.{zeroRange, no_range, foundRange};
-ghost use Rattle.commit.specs.Builders.{zeroFrames, zeroLsns, zeroSegment, newSegment, withFrames, newCommit, withLog, withLsn, withHash, withSegment, withCheckpoints};
+ghost use Rattle.basics.specs.Hashes.{zero_hash};
+ghost use Rattle.commit.specs.Says.{zero_range, no_range, found_range};
+ghost use Rattle.commit.specs.Builders.{zero_frames, zero_lsns, zero_segment, new_segment, with_frames, new_commit, with_log, with_lsn, with_hash, with_segment, with_checkpoints};
 
-use core::commit_hash;
-use core::commit_hash::CommitHash;
-use core::id::{LogId, SegmentId};
-use core::lsn::Lsn;
-use core::page_count::PageCount;
-use core::pageidx::PageIdx;
+use basics::commit_hash;
+use basics::commit_hash::CommitHash;
+use basics::id::{LogId, SegmentId};
+use basics::lsn::Lsn;
+use basics::page_count::PageCount;
+use basics::pageidx::PageIdx;
 use pageset::{PageSet, sets};
 
 // Whether what stands beside it counts. Where it is missing, zeros stand there.
@@ -68,7 +68,7 @@ pub struct RangeAnswer {
 
 // Sixteen frames, all zero.
 pub fn no_frames() -> [Frame; 16]
-    ensures { result ≡ zeroFrames }
+    ensures { result ≡ zero_frames }
 {
     let none = Frame {
         size: 0,
@@ -79,7 +79,7 @@ pub fn no_frames() -> [Frame; 16]
 
 // Eight LSNs, all zero.
 pub fn no_checkpoints() -> [Lsn; 8]
-    ensures { result ≡ zeroLsns }
+    ensures { result ≡ zero_lsns }
 {
     [Lsn(0); 8]
 }
@@ -87,7 +87,7 @@ pub fn no_checkpoints() -> [Lsn; 8]
 impl SegmentIdx {
     // A segment without frames.
     pub fn new(sid: SegmentId, pages: PageSet) -> SegmentIdx
-        ensures { result ≡ newSegment sid pages }
+        ensures { result ≡ new_segment sid pages }
     {
         let frames = no_frames();
         SegmentIdx {
@@ -100,14 +100,14 @@ impl SegmentIdx {
 
     // What stands where a segment is missing.
     pub fn zero() -> SegmentIdx
-        ensures { result ≡ zeroSegment }
+        ensures { result ≡ zero_segment }
     {
         SegmentIdx::new([0u8; 16], sets::empty())
     }
 
     // The segment with these frames.
     pub fn with_frames(self, len: usize, frames: [Frame; 16]) -> SegmentIdx
-        ensures { result ≡ withFrames self len frames }
+        ensures { result ≡ with_frames self len frames }
     {
         let sid = self.sid;
         let pages = self.pages;
@@ -123,7 +123,7 @@ impl SegmentIdx {
 impl SegmentRange {
     // What stands where there is no range.
     pub fn zero() -> SegmentRange
-        ensures { result ≡ zeroRange }
+        ensures { result ≡ zero_range }
     {
         let pages = sets::empty();
         SegmentRange {
@@ -149,7 +149,7 @@ pub fn no_range(code: u32) -> RangeAnswer
 
 // A range, under 0.
 pub fn found_range(range: SegmentRange) -> RangeAnswer
-    ensures { result ≡ foundRange range }
+    ensures { result ≡ found_range range }
 {
     RangeAnswer {
         code: 0,
@@ -161,7 +161,7 @@ pub fn found_range(range: SegmentRange) -> RangeAnswer
 impl Commit {
     // A commit without hash, segment and checkpoints.
     pub fn new(log: LogId, lsn: Lsn, count: PageCount) -> Commit
-        ensures { result ≡ newCommit log lsn count }
+        ensures { result ≡ new_commit log lsn count }
     {
         let hash = commit_hash::zero();
         let segment = SegmentIdx::zero();
@@ -181,7 +181,7 @@ impl Commit {
 
     // The commit in another log.
     pub fn with_log_id(mut self, log: LogId) -> Commit
-        ensures { result ≡ withLog self log }
+        ensures { result ≡ with_log self log }
     {
         self.log = log;
         self
@@ -189,7 +189,7 @@ impl Commit {
 
     // The commit at another LSN.
     pub fn with_lsn(mut self, lsn: Lsn) -> Commit
-        ensures { result ≡ withLsn self lsn }
+        ensures { result ≡ with_lsn self lsn }
     {
         self.lsn = lsn;
         self
@@ -197,7 +197,7 @@ impl Commit {
 
     // The commit with a hash, or with what stands beside a missing one.
     fn hashed(self, has: Presence, hash: CommitHash) -> Commit
-        ensures { result ≡ withHash self has hash }
+        ensures { result ≡ with_hash self has hash }
     {
         let log = self.log;
         let lsn = self.lsn;
@@ -220,21 +220,21 @@ impl Commit {
 
     // The commit with this hash.
     pub fn with_commit_hash(self, hash: CommitHash) -> Commit
-        ensures { result ≡ withHash self Presence.Given hash }
+        ensures { result ≡ with_hash self Presence.Given hash }
     {
         self.hashed(Presence::Given, hash)
     }
 
     // The commit without a hash.
     pub fn without_commit_hash(self) -> Commit
-        ensures { result ≡ withHash self Presence.Missing zeroHash }
+        ensures { result ≡ with_hash self Presence.Missing zero_hash }
     {
         self.hashed(Presence::Missing, commit_hash::zero())
     }
 
     // The commit with a segment, or with what stands beside a missing one.
     fn segmented(self, has: Presence, segment: SegmentIdx) -> Commit
-        ensures { result ≡ withSegment self has segment }
+        ensures { result ≡ with_segment self has segment }
     {
         let log = self.log;
         let lsn = self.lsn;
@@ -257,21 +257,21 @@ impl Commit {
 
     // The commit with this segment.
     pub fn with_segment_idx(self, segment: SegmentIdx) -> Commit
-        ensures { result ≡ withSegment self Presence.Given segment }
+        ensures { result ≡ with_segment self Presence.Given segment }
     {
         self.segmented(Presence::Given, segment)
     }
 
     // The commit without a segment.
     pub fn without_segment_idx(self) -> Commit
-        ensures { result ≡ withSegment self Presence.Missing zeroSegment }
+        ensures { result ≡ with_segment self Presence.Missing zero_segment }
     {
         self.segmented(Presence::Missing, SegmentIdx::zero())
     }
 
     // The commit with these checkpoints.
     pub fn with_checkpoints(mut self, listed: usize, checkpoints: [Lsn; 8]) -> Commit
-        ensures { result ≡ withCheckpoints self listed checkpoints }
+        ensures { result ≡ with_checkpoints self listed checkpoints }
     {
         self.listed = listed;
         self.checkpoints = checkpoints;

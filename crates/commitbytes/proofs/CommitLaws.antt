@@ -6,44 +6,44 @@ use lib.ListN.{length-replicate}
 use Rattle.octets.specs.Bytes.{be, bytes_of, part, put, AreBytes}
 use Rattle.octets.proofs.Numbers as N
 use Rattle.octets.proofs.Places as P
-use Rattle.std.specs.Int.{counts, lastPage}
+use Rattle.basics.specs.Numbers.{counts, last_page}
 use Rattle.rules.specs.Lists.{all, given}
 use Rattle.rules.specs.Records as R
-use Rattle.rules.specs.Arguments.{commitLsns}
-use Rattle.rules.specs.Forms.{idForm, lsnForm, countForm, hashForm, segmentForm, commitForm}
+use Rattle.rules.specs.Arguments.{commit_lsns}
+use Rattle.rules.specs.Forms.{id_form, lsn_form, count_form, hash_form, segment_form, commit_form}
 use Rattle.rules.proofs.TableLaws.{and_both}
 use Rattle.commit.specs.declared.Presence.{Presence}
 use Rattle.commit.specs.declared.Presence.TheVariants.{Missing, Given}
-use Rattle.commit.specs.Says.{givenSays}
-use Rattle.layout.specs.Codecs.{Codec, number, complement, optional, listed, pair, inForm}
-use Rattle.layout.specs.Values.{idBytes, windowBytes, setBytes, frameBytes, framesBytes, segmentBytes, segmentOf, segmentParts}
-use Rattle.layout.specs.Records.{logLsnBytes, hashBytes, commitBytes, commitOf, commitParts}
-use Rattle.layout.proofs.SpellLaws.{Steady, number-steady, complement-steady, raw-steady, reserved-steady, optional-steady, pair-steady, viewed-steady, listed-steady, number_spelled}
-use Rattle.layout.proofs.PlaceLaws.{same-form, viewed-form, pair-at, pair_read}
-use Rattle.setbytes.proofs.WindowLaws.{set-steady}
-use Rattle.segmentbytes.proofs.FrameLaws.{frame-steady}
-use Rattle.commitbytes.specs.Laid.{keyForm, lsnsForm}
-use Rattle.commitbytes.proofs.PartLaws.{key-at, read_none, read_some}
-use Rattle.commitbytes.proofs.LsnLaws.{lsns-number}
+use Rattle.commit.specs.Says.{given_says}
+use Rattle.layout.specs.Codecs.{Codec, number, complement, optional, listed, pair, in_form}
+use Rattle.layout.specs.Values.{id_bytes, window_bytes, set_bytes, frame_bytes, frames_bytes, segment_bytes, segment_of, segment_parts}
+use Rattle.layout.specs.Records.{log_lsn_bytes, hash_bytes, commit_bytes, commit_of, commit_parts}
+use Rattle.layout.proofs.SpellLaws.{Steady, number_steady, complement_steady, raw_steady, reserved_steady, optional_steady, pair_steady, viewed_steady, listed_steady, number_spelled}
+use Rattle.layout.proofs.PlaceLaws.{same_form, viewed_form, pair_at, pair_read}
+use Rattle.setbytes.proofs.WindowLaws.{set_steady}
+use Rattle.segmentbytes.proofs.FrameLaws.{frame_steady}
+use Rattle.commitbytes.specs.Laid.{key_form, lsns_form}
+use Rattle.commitbytes.proofs.PartLaws.{key_at, read_none, read_some}
+use Rattle.commitbytes.proofs.LsnLaws.{lsns_number}
 
 -- ---- forms whose readings have their length
 
-key-steady : Steady logLsnBytes
-unfolding logLsnBytes
-key-steady = reserved-steady (pair idBytes (complement 8)) (pair-steady idBytes (complement 8) (raw-steady 16) (complement-steady 8))
+key_steady : Steady log_lsn_bytes
+unfolding log_lsn_bytes
+key_steady = reserved_steady (pair id_bytes (complement 8)) (pair_steady id_bytes (complement 8) (raw_steady 16) (complement_steady 8))
 
-segment-steady : Steady segmentBytes
-unfolding segmentBytes framesBytes
-segment-steady =
-    viewed-steady (pair idBytes (pair setBytes framesBytes)) segmentOf segmentParts (λ x. refl)
-    (pair-steady idBytes (pair setBytes framesBytes) (raw-steady 16) (pair-steady setBytes framesBytes set-steady (listed-steady frameBytes 16 frame-steady)))
+segment_steady : Steady segment_bytes
+unfolding segment_bytes frames_bytes
+segment_steady =
+    viewed_steady (pair id_bytes (pair set_bytes frames_bytes)) segment_of segment_parts (λ x. refl)
+    (pair_steady id_bytes (pair set_bytes frames_bytes) (raw_steady 16) (pair_steady set_bytes frames_bytes set_steady (listed_steady frame_bytes 16 frame_steady)))
 
 -- ---- one value, and then another, at a place that is known by a sum
 
 module _ {A B : Type 0} (c : Codec A) (d : Codec B) (s : List ℕ) (at next : ℕ) (e : at + c.size ≡ next) where
-  form-next : (f : A → Bool) (g : B → Bool) → Steady c → AreBytes s → at + (c.size + d.size) ≤ length s
-      → inForm (pair c d) (λ x. f x.0 && g x.1) (part at (c.size + d.size) s) ≡ inForm c f (part at c.size s) && inForm d g (part next d.size s)
-  form-next f g st ab h = pair-at s ab at c d f g next st e (omega arith)
+  form_next : (f : A → Bool) (g : B → Bool) → Steady c → AreBytes s → at + (c.size + d.size) ≤ length s
+      → in_form (pair c d) (λ x. f x.0 && g x.1) (part at (c.size + d.size) s) ≡ in_form c f (part at c.size s) && in_form d g (part next d.size s)
+  form_next f g st ab h = pair_at s ab at c d f g next st e (omega arith)
 
 -- ---- the fields
 
@@ -51,61 +51,61 @@ abbrev lists : Codec (List ℕ)
 lists = listed (number 8) 8
 
 abbrev ends : Codec (Option R.Segment × List ℕ)
-ends = pair (optional segmentBytes) lists
+ends = pair (optional segment_bytes) lists
 
 abbrev hashed : Codec (Option R.Hash × (Option R.Segment × List ℕ))
-hashed = pair (optional hashBytes) ends
+hashed = pair (optional hash_bytes) ends
 
 abbrev counted : Codec (ℕ × (Option R.Hash × (Option R.Segment × List ℕ)))
 counted = pair (number 4) hashed
 
 module _ (s : List ℕ) (at : ℕ) where
-  pub commit-at : commitBytes.read (part at 722 s)
+  pub commit_at_lem : commit_bytes.read (part at 722 s)
       ≡ record {
         log = part (at + 1) 16 s;
         lsn = 18446744073709551615 - be (part (at + 17) 8 s);
         count = be (part (at + 25) 4 s);
-        hash = (optional hashBytes).read (part (at + 29) 33 s);
-        segment = (optional segmentBytes).read (part (at + 62) 595 s);
+        hash = (optional hash_bytes).read (part (at + 29) 33 s);
+        segment = (optional segment_bytes).read (part (at + 62) 595 s);
         checkpoints = (listed (number 8) 8).read (part (at + 657) 65 s);
       }
-  unfolding commitBytes logLsnBytes segmentBytes setBytes windowBytes framesBytes frameBytes
-  commit-at =
-      ap commitOf
-      (pair_read s at logLsnBytes counted (at + 25) refl
-      ∙ ap₂ (λ (k : List ℕ × ℕ) (r : ℕ × (Option R.Hash × (Option R.Segment × List ℕ))). (k, r)) (key-at s at)
+  unfolding commit_bytes log_lsn_bytes segment_bytes set_bytes window_bytes frames_bytes frame_bytes
+  commit_at_lem =
+      ap commit_of
+      (pair_read s at log_lsn_bytes counted (at + 25) refl
+      ∙ ap₂ (λ (k : List ℕ × ℕ) (r : ℕ × (Option R.Hash × (Option R.Segment × List ℕ))). (k, r)) (key_at s at)
       (pair_read s (at + 25) (number 4) hashed (at + 29) (omega arith)
       ∙ ap (λ (r : Option R.Hash × (Option R.Segment × List ℕ)). (be (part (at + 25) 4 s), r))
-      (pair_read s (at + 29) (optional hashBytes) ends (at + 62) (omega arith)
-      ∙ ap (λ (r : Option R.Segment × List ℕ). ((optional hashBytes).read (part (at + 29) 33 s), r)) (pair_read s (at + 62) (optional segmentBytes) lists (at + 657) (omega arith)))))
+      (pair_read s (at + 29) (optional hash_bytes) ends (at + 62) (omega arith)
+      ∙ ap (λ (r : Option R.Segment × List ℕ). ((optional hash_bytes).read (part (at + 29) 33 s), r)) (pair_read s (at + 62) (optional segment_bytes) lists (at + 657) (omega arith)))))
 
   -- ---- the form
 
   module _ (ab : AreBytes s) (h : at + 722 ≤ length s) where
     -- any four bytes are a page count
-    count-is : inForm (number 4) countForm (part (at + 25) 4 s) ≡ true
-    unfolding inForm countForm lastPage
-    count-is =
-        let small : be (part (at + 25) 4 s) < 256 ^ 4 = P.be-part-lt (at + 25) 4 s ab (omega arith) in
-        and_both (number_spelled 4 (part (at + 25) 4 s) (P.bytes-part (at + 25) 4 s ab) (P.length_part (at + 25) 4 s (omega arith))) (le-leb (be (part (at + 25) 4 s)) (2 ^ 32 - 1) (omega arith))
+    count_is : in_form (number 4) count_form (part (at + 25) 4 s) ≡ true
+    unfolding in_form count_form last_page
+    count_is =
+        let small : be (part (at + 25) 4 s) < 256 ^ 4 = P.be_part_lt (at + 25) 4 s ab (omega arith) in
+        and_both (number_spelled 4 (part (at + 25) 4 s) (P.bytes_part (at + 25) 4 s ab) (P.length_part (at + 25) 4 s (omega arith))) (le-leb (be (part (at + 25) 4 s)) (2 ^ 32 - 1) (omega arith))
 
-    form-is : inForm commitBytes commitForm (part at 722 s)
-        ≡ inForm logLsnBytes keyForm (part at 25 s)
-        && (inForm (optional hashBytes) (given hashForm) (part (at + 29) 33 s)
-        && (inForm (optional segmentBytes) (given segmentForm) (part (at + 62) 595 s) && inForm (listed (number 8) 8) lsnsForm (part (at + 657) 65 s)))
-    unfolding commitBytes logLsnBytes segmentBytes setBytes windowBytes framesBytes frameBytes commitForm keyForm lsnsForm
-    form-is =
-        viewed-form (pair logLsnBytes counted) commitOf commitParts commitForm (part at 722 s) (λ x. refl)
-        ∙ same-form (pair logLsnBytes counted) (λ x. commitForm (commitOf x))
-        (λ x. keyForm x.0 && (countForm x.1.0 && (given hashForm x.1.1.0 && (given segmentForm x.1.1.1.0 && lsnsForm x.1.1.1.1)))) (part at 722 s)
-        (λ x. regroup (idForm x.0.0) (lsnForm x.0.1) (countForm x.1.0) (given hashForm x.1.1.0) (given segmentForm x.1.1.1.0) (leb (length x.1.1.1.1) 8) (all lsnForm x.1.1.1.1))
-        ∙ pair-at s ab at logLsnBytes counted keyForm (λ r. countForm r.0 && (given hashForm r.1.0 && (given segmentForm r.1.1.0 && lsnsForm r.1.1.1))) (at + 25) key-steady refl (omega arith)
-        ∙ ap (λ (t : Bool). inForm logLsnBytes keyForm (part at 25 s) && t)
-        (form-next (number 4) hashed s (at + 25) (at + 29) (omega arith) countForm (λ r. given hashForm r.0 && (given segmentForm r.1.0 && lsnsForm r.1.1)) (number-steady 4) ab (omega arith)
-        ∙ ap₂ ◌&&◌ count-is
-        (form-next (optional hashBytes) ends s (at + 29) (at + 62) (omega arith) (given hashForm) (λ r. given segmentForm r.0 && lsnsForm r.1) (optional-steady hashBytes (raw-steady 32)) ab (omega arith)
-        ∙ ap (λ (t : Bool). inForm (optional hashBytes) (given hashForm) (part (at + 29) 33 s) && t)
-        (form-next (optional segmentBytes) lists s (at + 62) (at + 657) (omega arith) (given segmentForm) lsnsForm (optional-steady segmentBytes segment-steady) ab (omega arith))))
+    form_is : in_form commit_bytes commit_form (part at 722 s)
+        ≡ in_form log_lsn_bytes key_form (part at 25 s)
+        && (in_form (optional hash_bytes) (given hash_form) (part (at + 29) 33 s)
+        && (in_form (optional segment_bytes) (given segment_form) (part (at + 62) 595 s) && in_form (listed (number 8) 8) lsns_form (part (at + 657) 65 s)))
+    unfolding commit_bytes log_lsn_bytes segment_bytes set_bytes window_bytes frames_bytes frame_bytes commit_form key_form lsns_form
+    form_is =
+        viewed_form (pair log_lsn_bytes counted) commit_of commit_parts commit_form (part at 722 s) (λ x. refl)
+        ∙ same_form (pair log_lsn_bytes counted) (λ x. commit_form (commit_of x))
+        (λ x. key_form x.0 && (count_form x.1.0 && (given hash_form x.1.1.0 && (given segment_form x.1.1.1.0 && lsns_form x.1.1.1.1)))) (part at 722 s)
+        (λ x. regroup (id_form x.0.0) (lsn_form x.0.1) (count_form x.1.0) (given hash_form x.1.1.0) (given segment_form x.1.1.1.0) (leb (length x.1.1.1.1) 8) (all lsn_form x.1.1.1.1))
+        ∙ pair_at s ab at log_lsn_bytes counted key_form (λ r. count_form r.0 && (given hash_form r.1.0 && (given segment_form r.1.1.0 && lsns_form r.1.1.1))) (at + 25) key_steady refl (omega arith)
+        ∙ ap (λ (t : Bool). in_form log_lsn_bytes key_form (part at 25 s) && t)
+        (form_next (number 4) hashed s (at + 25) (at + 29) (omega arith) count_form (λ r. given hash_form r.0 && (given segment_form r.1.0 && lsns_form r.1.1)) (number_steady 4) ab (omega arith)
+        ∙ ap₂ ◌&&◌ count_is
+        (form_next (optional hash_bytes) ends s (at + 29) (at + 62) (omega arith) (given hash_form) (λ r. given segment_form r.0 && lsns_form r.1) (optional_steady hash_bytes (raw_steady 32)) ab (omega arith)
+        ∙ ap (λ (t : Bool). in_form (optional hash_bytes) (given hash_form) (part (at + 29) 33 s) && t)
+        (form_next (optional segment_bytes) lists s (at + 62) (at + 657) (omega arith) (given segment_form) lsns_form (optional_steady segment_bytes segment_steady) ab (omega arith))))
       where
         regroup : (a b c d e f g : Bool) → a && b && c && d && e && f && g ≡ (a && b) && (c && (d && (e && (f && g))))
         regroup true true true true true f g = refl
@@ -115,87 +115,87 @@ module _ (s : List ℕ) (at : ℕ) where
         regroup true false c d e f g = refl
         regroup false b c d e f g = refl
 
-    pub key-not : inForm logLsnBytes keyForm (part at 25 s) ≡ false → inForm commitBytes commitForm (part at 722 s) ≡ false
-    key-not e = form-is ∙ ap (λ (t : Bool). t && (inForm (optional hashBytes) (given hashForm) (part (at + 29) 33 s) && (inForm (optional segmentBytes) (given segmentForm) (part (at + 62) 595 s) && inForm (listed (number 8) 8) lsnsForm (part (at + 657) 65 s)))) e
+    pub key_not : in_form log_lsn_bytes key_form (part at 25 s) ≡ false → in_form commit_bytes commit_form (part at 722 s) ≡ false
+    key_not e = form_is ∙ ap (λ (t : Bool). t && (in_form (optional hash_bytes) (given hash_form) (part (at + 29) 33 s) && (in_form (optional segment_bytes) (given segment_form) (part (at + 62) 595 s) && in_form (listed (number 8) 8) lsns_form (part (at + 657) 65 s)))) e
 
-    module _ (k : inForm logLsnBytes keyForm (part at 25 s) ≡ true) where
-      pub hash-not : inForm (optional hashBytes) (given hashForm) (part (at + 29) 33 s) ≡ false → inForm commitBytes commitForm (part at 722 s) ≡ false
-      hash-not e = form-is ∙ ap₂ (λ (t u : Bool). t && (u && (inForm (optional segmentBytes) (given segmentForm) (part (at + 62) 595 s) && inForm (listed (number 8) 8) lsnsForm (part (at + 657) 65 s)))) k e
+    module _ (k : in_form log_lsn_bytes key_form (part at 25 s) ≡ true) where
+      pub hash_not : in_form (optional hash_bytes) (given hash_form) (part (at + 29) 33 s) ≡ false → in_form commit_bytes commit_form (part at 722 s) ≡ false
+      hash_not e = form_is ∙ ap₂ (λ (t u : Bool). t && (u && (in_form (optional segment_bytes) (given segment_form) (part (at + 62) 595 s) && in_form (listed (number 8) 8) lsns_form (part (at + 657) 65 s)))) k e
 
-      module _ (q : inForm (optional hashBytes) (given hashForm) (part (at + 29) 33 s) ≡ true) where
-        left_is : inForm commitBytes commitForm (part at 722 s) ≡ inForm (optional segmentBytes) (given segmentForm) (part (at + 62) 595 s) && inForm (listed (number 8) 8) lsnsForm (part (at + 657) 65 s)
-        left_is = form-is ∙ ap₂ (λ (t u : Bool). t && (u && (inForm (optional segmentBytes) (given segmentForm) (part (at + 62) 595 s) && inForm (listed (number 8) 8) lsnsForm (part (at + 657) 65 s)))) k q
+      module _ (q : in_form (optional hash_bytes) (given hash_form) (part (at + 29) 33 s) ≡ true) where
+        left_is : in_form commit_bytes commit_form (part at 722 s) ≡ in_form (optional segment_bytes) (given segment_form) (part (at + 62) 595 s) && in_form (listed (number 8) 8) lsns_form (part (at + 657) 65 s)
+        left_is = form_is ∙ ap₂ (λ (t u : Bool). t && (u && (in_form (optional segment_bytes) (given segment_form) (part (at + 62) 595 s) && in_form (listed (number 8) 8) lsns_form (part (at + 657) 65 s)))) k q
 
-        pub segment-not : inForm (optional segmentBytes) (given segmentForm) (part (at + 62) 595 s) ≡ false → inForm commitBytes commitForm (part at 722 s) ≡ false
-        segment-not e = left_is ∙ ap (λ (t : Bool). t && inForm (listed (number 8) 8) lsnsForm (part (at + 657) 65 s)) e
+        pub segment_not : in_form (optional segment_bytes) (given segment_form) (part (at + 62) 595 s) ≡ false → in_form commit_bytes commit_form (part at 722 s) ≡ false
+        segment_not e = left_is ∙ ap (λ (t : Bool). t && in_form (listed (number 8) 8) lsns_form (part (at + 657) 65 s)) e
 
-        pub lsns-decide : inForm (optional segmentBytes) (given segmentForm) (part (at + 62) 595 s) ≡ true → inForm (listed (number 8) 8) lsnsForm (part (at + 657) 65 s) ≡ inForm commitBytes commitForm (part at 722 s)
-        lsns-decide e = sym (left_is ∙ ap (λ (t : Bool). t && inForm (listed (number 8) 8) lsnsForm (part (at + 657) 65 s)) e)
+        pub lsns_decide : in_form (optional segment_bytes) (given segment_form) (part (at + 62) 595 s) ≡ true → in_form (listed (number 8) 8) lsns_form (part (at + 657) 65 s) ≡ in_form commit_bytes commit_form (part at 722 s)
+        lsns_decide e = sym (left_is ∙ ap (λ (t : Bool). t && in_form (listed (number 8) 8) lsns_form (part (at + 657) 65 s)) e)
 
   -- ---- number 1
 
   module _ (h : at + 722 ≤ length s) where
-    lsns-are : commitLsns (commitBytes.read (part at 722 s)) ≡ counts (18446744073709551615 - be (part (at + 17) 8 s)) && all counts ((listed (number 8) 8).read (part (at + 657) 65 s))
-    unfolding commitLsns
-    lsns-are =
-        let n = lsns-number s (at + 657) (omega arith) (min (be (part (at + 657) 1 s)) 8) refl in
-        ap commitLsns commit-at
+    lsns_are : commit_lsns (commit_bytes.read (part at 722 s)) ≡ counts (18446744073709551615 - be (part (at + 17) 8 s)) && all counts ((listed (number 8) 8).read (part (at + 657) 65 s))
+    unfolding commit_lsns
+    lsns_are =
+        let n = lsns_number s (at + 657) (omega arith) (min (be (part (at + 657) 1 s)) 8) refl in
+        ap commit_lsns commit_at_lem
         ∙ ap (λ (ns : List ℕ). counts (18446744073709551615 - be (part (at + 17) 8 s)) && all counts ns) (take_all 8 ((listed (number 8) 8).read (part (at + 657) 65 s)) (omega arith))
 
-    pub lsn-zero : 18446744073709551615 ≤ be (part (at + 17) 8 s) → commitLsns (commitBytes.read (part at 722 s)) ≡ false
-    lsn-zero l =
-        lsns-are
+    pub lsn_zero : 18446744073709551615 ≤ be (part (at + 17) 8 s) → commit_lsns (commit_bytes.read (part at 722 s)) ≡ false
+    lsn_zero l =
+        lsns_are
         ∙ ap (λ (t : Bool). t && all counts ((listed (number 8) 8).read (part (at + 657) 65 s))) (le-ltb 0 (18446744073709551615 - be (part (at + 17) 8 s)) (omega arith))
 
-    pub lsns-left : be (part (at + 17) 8 s) < 18446744073709551615 → all counts ((listed (number 8) 8).read (part (at + 657) 65 s)) ≡ commitLsns (commitBytes.read (part at 722 s))
-    lsns-left l =
+    pub lsns_left : be (part (at + 17) 8 s) < 18446744073709551615 → all counts ((listed (number 8) 8).read (part (at + 657) 65 s)) ≡ commit_lsns (commit_bytes.read (part at 722 s))
+    lsns_left l =
         sym
-        (lsns-are
+        (lsns_are
         ∙ ap (λ (t : Bool). t && all counts ((listed (number 8) 8).read (part (at + 657) 65 s))) (lt-ltb 0 (18446744073709551615 - be (part (at + 17) 8 s)) (omega arith)))
 
   -- ---- its hash and its segment
 
-  hash-is : (commitBytes.read (part at 722 s)).hash ≡ (optional hashBytes).read (part (at + 29) 33 s)
-  hash-is = ap (λ (c : R.Commit). c.hash) commit-at
+  hash_is : (commit_bytes.read (part at 722 s)).hash ≡ (optional hash_bytes).read (part (at + 29) 33 s)
+  hash_is = ap (λ (c : R.Commit). c.hash) commit_at_lem
 
-  pub hash-none : be (part (at + 29) 1 s) ≡ 0 → (commitBytes.read (part at 722 s)).hash ≡ none
-  hash-none e = hash-is ∙ read_none hashBytes s (at + 29) e
+  pub hash_none : be (part (at + 29) 1 s) ≡ 0 → (commit_bytes.read (part at 722 s)).hash ≡ none
+  hash_none e = hash_is ∙ read_none hash_bytes s (at + 29) e
 
-  pub hash-there : (be (part (at + 29) 1 s) ≡ 0 → ⊥) → (commitBytes.read (part at 722 s)).hash ≡ some (part (at + 30) 32 s)
-  hash-there n = let e : at + 29 + 1 ≡ at + 30 = omega arith in hash-is ∙ read_some hashBytes s (at + 29) n ∙ ap (λ (k : ℕ). some (part k 32 s)) e
+  pub hash_there : (be (part (at + 29) 1 s) ≡ 0 → ⊥) → (commit_bytes.read (part at 722 s)).hash ≡ some (part (at + 30) 32 s)
+  hash_there n = let e : at + 29 + 1 ≡ at + 30 = omega arith in hash_is ∙ read_some hash_bytes s (at + 29) n ∙ ap (λ (k : ℕ). some (part k 32 s)) e
 
-  segment-is : (commitBytes.read (part at 722 s)).segment ≡ (optional segmentBytes).read (part (at + 62) 595 s)
-  segment-is = ap (λ (c : R.Commit). c.segment) commit-at
+  segment_is : (commit_bytes.read (part at 722 s)).segment ≡ (optional segment_bytes).read (part (at + 62) 595 s)
+  segment_is = ap (λ (c : R.Commit). c.segment) commit_at_lem
 
-  pub segment-none : be (part (at + 62) 1 s) ≡ 0 → (commitBytes.read (part at 722 s)).segment ≡ none
-  unfolding segmentBytes setBytes windowBytes framesBytes frameBytes
-  segment-none e = segment-is ∙ read_none segmentBytes s (at + 62) e
+  pub segment_none : be (part (at + 62) 1 s) ≡ 0 → (commit_bytes.read (part at 722 s)).segment ≡ none
+  unfolding segment_bytes set_bytes window_bytes frames_bytes frame_bytes
+  segment_none e = segment_is ∙ read_none segment_bytes s (at + 62) e
 
-  pub segment-there : (be (part (at + 62) 1 s) ≡ 0 → ⊥) → (commitBytes.read (part at 722 s)).segment ≡ some (segmentBytes.read (part (at + 63) 594 s))
-  unfolding segmentBytes setBytes windowBytes framesBytes frameBytes
-  segment-there n = let e : at + 62 + 1 ≡ at + 63 = omega arith in segment-is ∙ read_some segmentBytes s (at + 62) n ∙ ap (λ (k : ℕ). some (segmentBytes.read (part k 594 s))) e
+  pub segment_there : (be (part (at + 62) 1 s) ≡ 0 → ⊥) → (commit_bytes.read (part at 722 s)).segment ≡ some (segment_bytes.read (part (at + 63) 594 s))
+  unfolding segment_bytes set_bytes window_bytes frames_bytes frame_bytes
+  segment_there n = let e : at + 62 + 1 ≡ at + 63 = omega arith in segment_is ∙ read_some segment_bytes s (at + 62) n ∙ ap (λ (k : ℕ). some (segment_bytes.read (part k 594 s))) e
 
 -- ---- a commit written
 
 -- how many bytes something that may be missing has
-pub given-long : {A : Type 0} (c : Codec A) (has : Presence) (x : A) → length (c.spell x) ≡ c.size → length ((optional c).spell (givenSays has x)) ≡ 1 + c.size
-given-long c Missing x e = ap suc (length-replicate c.size 0) ∙ omega arith
-given-long c Given x e = ap suc e ∙ omega arith
+pub given_long : {A : Type 0} (c : Codec A) (has : Presence) (x : A) → length (c.spell x) ≡ c.size → length ((optional c).spell (given_says has x)) ≡ 1 + c.size
+given_long c Missing x e = ap suc (length-replicate c.size 0) ∙ omega arith
+given_long c Given x e = ap suc e ∙ omega arith
 
 -- its five stores
-pub commit-stored : (at : ℕ) (x : R.Commit) (s t u v w y : List ℕ) → length (logLsnBytes.spell (x.log, x.lsn)) ≡ 25 → length ((optional hashBytes).spell x.hash) ≡ 33
-    → length ((optional segmentBytes).spell x.segment) ≡ 595 → length ((listed (number 8) 8).spell x.checkpoints) ≡ 65 → at + 722 ≤ length s
-    → t ≡ put at (logLsnBytes.spell (x.log, x.lsn)) s → u ≡ put (at + 25) (bytes_of 4 x.count) t → v ≡ put (at + 29) ((optional hashBytes).spell x.hash) u
-    → w ≡ put (at + 62) ((optional segmentBytes).spell x.segment) v → y ≡ put (at + 657) ((listed (number 8) 8).spell x.checkpoints) w → y ≡ put at (commitBytes.spell x) s
-unfolding commitBytes
-commit-stored at x s t u v w y i j k l h p q r z n =
-    let a = logLsnBytes.spell (x.log, x.lsn) in
+pub commit_stored : (at : ℕ) (x : R.Commit) (s t u v w y : List ℕ) → length (log_lsn_bytes.spell (x.log, x.lsn)) ≡ 25 → length ((optional hash_bytes).spell x.hash) ≡ 33
+    → length ((optional segment_bytes).spell x.segment) ≡ 595 → length ((listed (number 8) 8).spell x.checkpoints) ≡ 65 → at + 722 ≤ length s
+    → t ≡ put at (log_lsn_bytes.spell (x.log, x.lsn)) s → u ≡ put (at + 25) (bytes_of 4 x.count) t → v ≡ put (at + 29) ((optional hash_bytes).spell x.hash) u
+    → w ≡ put (at + 62) ((optional segment_bytes).spell x.segment) v → y ≡ put (at + 657) ((listed (number 8) 8).spell x.checkpoints) w → y ≡ put at (commit_bytes.spell x) s
+unfolding commit_bytes
+commit_stored at x s t u v w y i j k l h p q r z n =
+    let a = log_lsn_bytes.spell (x.log, x.lsn) in
     let b = bytes_of 4 x.count in
-    let c = (optional hashBytes).spell x.hash in
-    let d = (optional segmentBytes).spell x.segment in
+    let c = (optional hash_bytes).spell x.hash in
+    let d = (optional segment_bytes).spell x.segment in
     let f = (listed (number 8) 8).spell x.checkpoints in
-    let one = P.then-stored (P.stored at 25 a s i p) 4 b (N.length-bytesOf 4 x.count) (omega arith) q in
-    let two = P.then-stored one 33 c j (omega arith) (r ∙ ap (λ (m : ℕ). put m c u) (let e : at + 29 ≡ at + (25 + 4) = omega arith in e)) in
-    let three = P.then-stored two 595 d k (omega arith) (z ∙ ap (λ (m : ℕ). put m d v) (let e : at + 62 ≡ at + (25 + 4 + 33) = omega arith in e)) in
-    (P.then-stored three 65 f l (omega arith) (n ∙ ap (λ (m : ℕ). put m f w) (let e : at + 657 ≡ at + (25 + 4 + 33 + 595) = omega arith in e))).bytes
+    let one = P.then_stored (P.stored at 25 a s i p) 4 b (N.length_bytes_of 4 x.count) (omega arith) q in
+    let two = P.then_stored one 33 c j (omega arith) (r ∙ ap (λ (m : ℕ). put m c u) (let e : at + 29 ≡ at + (25 + 4) = omega arith in e)) in
+    let three = P.then_stored two 595 d k (omega arith) (z ∙ ap (λ (m : ℕ). put m d v) (let e : at + 62 ≡ at + (25 + 4 + 33) = omega arith in e)) in
+    (P.then_stored three 65 f l (omega arith) (n ∙ ap (λ (m : ℕ). put m f w) (let e : at + 657 ≡ at + (25 + 4 + 33 + 595) = omega arith in e))).bytes
     ∙ ap (λ (m : List ℕ). put at m s) (append_assoc (((a ++ b) ++ c)) d f ∙ append_assoc (a ++ b) c (d ++ f) ∙ append_assoc a b (c ++ (d ++ f)))

@@ -1,27 +1,27 @@
 // Single fields of a commit in bytes, read where they stand.
 ghost use Rattle.std.specs.Prelude.{◌≡◌, ◌+◌, ◌≤◌, length};
 ghost use Rattle.octets.specs.Bytes.{part};
-ghost use Rattle.rules.specs.Push.{isHash};
-ghost use Rattle.rules.specs.Save.{hasSid};
+ghost use Rattle.rules.specs.Push.{is_hash};
+ghost use Rattle.rules.specs.Save.{has_sid};
 ghost use Rattle.layout.specs.Codecs.{Codec};
-ghost use Rattle.layout.specs.Records.{commitBytes};
-ghost use Rattle.std.specs.Says.{lsnLaid};
-ghost use Rattle.commitbytes.specs.Laid.{presence, hashLaid, givenSegment};
+ghost use Rattle.layout.specs.Records.{commit_bytes};
+ghost use Rattle.basics.specs.Says.{lsn_laid};
+ghost use Rattle.commitbytes.specs.Laid.{presence, hash_laid, given_segment};
 
 use crate::parts::flag_read;
 use commit::{Presence, SegmentIdx};
-use core::commit_hash;
-use core::commit_hash::CommitHash;
-use core::id::{LogId, SegmentId};
-use core::lsn::Lsn;
-use core::page_count::PageCount;
+use basics::commit_hash;
+use basics::commit_hash::CommitHash;
+use basics::id::{LogId, SegmentId};
+use basics::lsn::Lsn;
+use basics::page_count::PageCount;
 use octets::{load_hash, load_id, load8, load32, load64, same};
 use segmentbytes::segment_read;
 
 // Its log.
 pub fn commit_log(s: &[u8], at: usize) -> LogId
     requires { at + 722 ≤ length s.now }
-    ensures { result ≡ (commitBytes.read (part at 722 s.now)).log }
+    ensures { result ≡ (commit_bytes.read (part at 722 s.now)).log }
 {
     load_id(s, at + 1)
 }
@@ -29,7 +29,7 @@ pub fn commit_log(s: &[u8], at: usize) -> LogId
 // Its LSN, which is stored as its complement.
 pub fn commit_lsn(s: &[u8], at: usize) -> Lsn
     requires { at + 722 ≤ length s.now }
-    ensures { result.0 ≡ (commitBytes.read (part at 722 s.now)).lsn }
+    ensures { result.0 ≡ (commit_bytes.read (part at 722 s.now)).lsn }
 {
     Lsn(18446744073709551615 - load64(s, at + 17))
 }
@@ -37,7 +37,7 @@ pub fn commit_lsn(s: &[u8], at: usize) -> Lsn
 // Its page count.
 pub fn commit_count(s: &[u8], at: usize) -> PageCount
     requires { at + 722 ≤ length s.now }
-    ensures { result.0 ≡ (commitBytes.read (part at 722 s.now)).count }
+    ensures { result.0 ≡ (commit_bytes.read (part at 722 s.now)).count }
 {
     PageCount(load32(s, at + 25))
 }
@@ -45,7 +45,7 @@ pub fn commit_count(s: &[u8], at: usize) -> PageCount
 // Whether it has a hash.
 pub fn commit_has_hash(s: &[u8], at: usize) -> Presence
     requires { at + 722 ≤ length s.now }
-    ensures { result ≡ presence (commitBytes.read (part at 722 s.now)).hash }
+    ensures { result ≡ presence (commit_bytes.read (part at 722 s.now)).hash }
 {
     flag_read(s, at + 29)
 }
@@ -53,7 +53,7 @@ pub fn commit_has_hash(s: &[u8], at: usize) -> Presence
 // Its hash, and ZERO where it is missing.
 pub fn commit_hash(s: &[u8], at: usize) -> CommitHash
     requires { at + 722 ≤ length s.now }
-    ensures { result ≡ hashLaid (commitBytes.read (part at 722 s.now)).hash }
+    ensures { result ≡ hash_laid (commit_bytes.read (part at 722 s.now)).hash }
 {
     if load8(s, at + 29) == 0 {
         return commit_hash::zero();
@@ -64,7 +64,7 @@ pub fn commit_hash(s: &[u8], at: usize) -> CommitHash
 // Whether it has this hash.
 pub fn commit_hash_is(s: &[u8], at: usize, hash: CommitHash) -> bool
     requires { at + 722 ≤ length s.now }
-    ensures { result ≡ isHash (commitBytes.read (part at 722 s.now)).hash hash }
+    ensures { result ≡ is_hash (commit_bytes.read (part at 722 s.now)).hash hash }
 {
     if load8(s, at + 29) == 0 {
         return false;
@@ -75,7 +75,7 @@ pub fn commit_hash_is(s: &[u8], at: usize, hash: CommitHash) -> bool
 // Whether it has a segment.
 pub fn commit_has_segment(s: &[u8], at: usize) -> Presence
     requires { at + 722 ≤ length s.now }
-    ensures { result ≡ presence (commitBytes.read (part at 722 s.now)).segment }
+    ensures { result ≡ presence (commit_bytes.read (part at 722 s.now)).segment }
 {
     flag_read(s, at + 62)
 }
@@ -83,7 +83,7 @@ pub fn commit_has_segment(s: &[u8], at: usize) -> Presence
 // Its segment, and zeros where it is missing.
 pub fn commit_segment(s: &[u8], at: usize) -> SegmentIdx
     requires { at + 722 ≤ length s.now }
-    ensures { result ≡ givenSegment (commitBytes.read (part at 722 s.now)).segment }
+    ensures { result ≡ given_segment (commit_bytes.read (part at 722 s.now)).segment }
 {
     if load8(s, at + 62) == 0 {
         return SegmentIdx::zero();
@@ -94,7 +94,7 @@ pub fn commit_segment(s: &[u8], at: usize) -> SegmentIdx
 // Whether it has a segment of this identifier.
 pub fn commit_sid_is(s: &[u8], at: usize, sid: SegmentId) -> bool
     requires { at + 722 ≤ length s.now }
-    ensures { result ≡ hasSid sid (commitBytes.read (part at 722 s.now)).segment }
+    ensures { result ≡ has_sid sid (commit_bytes.read (part at 722 s.now)).segment }
 {
     if load8(s, at + 62) == 0 {
         return false;

@@ -6,12 +6,12 @@ pub mod parts;
 
 ghost use Rattle.std.specs.Prelude.{◌≡◌, ◌+◌, ◌≤◌, length};
 ghost use Rattle.octets.specs.Bytes.{part, put};
-ghost use Rattle.rules.specs.Arguments.{commitLsns};
-ghost use Rattle.rules.specs.Forms.{commitForm};
-ghost use Rattle.commit.specs.Says.{commitSays};
-ghost use Rattle.layout.specs.Codecs.{Codec, inForm};
-ghost use Rattle.layout.specs.Records.{commitBytes};
-ghost use Rattle.commitbytes.specs.Laid.{commitLaid};
+ghost use Rattle.rules.specs.Arguments.{commit_lsns};
+ghost use Rattle.rules.specs.Forms.{commit_form};
+ghost use Rattle.commit.specs.Says.{commit_says};
+ghost use Rattle.layout.specs.Codecs.{Codec, in_form};
+ghost use Rattle.layout.specs.Records.{commit_bytes};
+ghost use Rattle.commitbytes.specs.Laid.{commit_laid};
 
 use commit::Commit;
 use octets::{load64, store32};
@@ -19,7 +19,7 @@ use octets::{load64, store32};
 // Whether the 722 bytes at a place are those of a commit in form.
 pub fn commit_form(s: &[u8], at: usize) -> bool
     requires { at + 722 ≤ length s.now }
-    ensures { result ≡ inForm commitBytes commitForm (part at 722 s.now) }
+    ensures { result ≡ in_form commit_bytes commit_form (part at 722 s.now) }
 {
     if !parts::key_form(s, at) {
         return false;
@@ -36,7 +36,7 @@ pub fn commit_form(s: &[u8], at: usize) -> bool
 // Number 1 of a commit in bytes: whether neither its LSN nor a listed checkpoint is 0.
 pub fn commit_lsns_ok(s: &[u8], at: usize) -> bool
     requires { at + 722 ≤ length s.now }
-    ensures { result ≡ commitLsns (commitBytes.read (part at 722 s.now)) }
+    ensures { result ≡ commit_lsns (commit_bytes.read (part at 722 s.now)) }
 {
     if 18446744073709551615 <= load64(s, at + 17) {
         return false;
@@ -47,7 +47,7 @@ pub fn commit_lsns_ok(s: &[u8], at: usize) -> bool
 // The commit that the 722 bytes at a place spell.
 pub fn commit_read(s: &[u8], at: usize) -> Commit
     requires { at + 722 ≤ length s.now }
-    ensures { result ≡ commitLaid (commitBytes.read (part at 722 s.now)) }
+    ensures { result ≡ commit_laid (commit_bytes.read (part at 722 s.now)) }
 {
     let log = fields::commit_log(s, at);
     let lsn = fields::commit_lsn(s, at);
@@ -74,8 +74,8 @@ pub fn commit_read(s: &[u8], at: usize) -> Commit
 // A commit, zero beside what is missing and past what counts, over the 722 bytes at a place.
 pub fn commit_write(s: &mut [u8], at: usize, x: Commit)
     requires at_in_bounds { at + 722 ≤ length s.old }
-    requires x_value { commitLaid (commitSays x) ≡ x }
-    ensures { s.new ≡ put at (commitBytes.spell (commitSays x)) s.old }
+    requires x_value { commit_laid (commit_says x) ≡ x }
+    ensures { s.new ≡ put at (commit_bytes.spell (commit_says x)) s.old }
 {
     let log = x.log;
     let lsn = x.lsn;

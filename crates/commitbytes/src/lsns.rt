@@ -2,20 +2,20 @@
 ghost use Rattle.std.specs.Prelude.{◌≡◌, ◌+◌, ◌*◌, ◌≤◌, map, length, take};
 ghost use Rattle.octets.specs.Bytes.{bytes_of, part, put};
 ghost use Rattle.octets.specs.Flat.{flat};
-ghost use Rattle.std.specs.Int.{counts};
+ghost use Rattle.basics.specs.Numbers.{counts};
 ghost use Rattle.rules.specs.Lists.{all};
-ghost use Rattle.layout.specs.Codecs.{Codec, number, listed, inForm};
-ghost use Rattle.commitbytes.specs.Laid.{lsnsAt, lsnSays, lsnsLaid, lsnsForm, IsLaid};
+ghost use Rattle.layout.specs.Codecs.{Codec, number, listed, in_form};
+ghost use Rattle.commitbytes.specs.Laid.{lsns_at, lsn_says, lsns_laid, lsns_form, IsLaid};
 
 use commit::no_checkpoints;
-use core::lsn::Lsn;
+use basics::lsn::Lsn;
 use octets::{all_zero, load8, load64, store8, store64};
 use setbytes::count_read;
 
 // Whether none of the n LSNs from a place on is 0.
 fn none_zero(s: &[u8], at: usize, n: usize) -> bool
     requires { (n ≤ 8) × (at + n * 8 ≤ length s.now) }
-    ensures { result ≡ all counts (lsnsAt n at s.now) }
+    ensures { result ≡ all counts (lsns_at n at s.now) }
 {
     let mut i: usize = 0;
     while i < n {
@@ -31,7 +31,7 @@ fn none_zero(s: &[u8], at: usize, n: usize) -> bool
 // Whether the 65 bytes at a place are those of at most 8 LSNs, none of them 0.
 pub fn lsns_form(s: &[u8], at: usize) -> bool
     requires { at + 65 ≤ length s.now }
-    ensures { result ≡ inForm (listed (number 8) 8) lsnsForm (part at 65 s.now) }
+    ensures { result ≡ in_form (listed (number 8) 8) lsns_form (part at 65 s.now) }
 {
     let n = load8(s, at) as usize;
     if 8 < n {
@@ -63,7 +63,7 @@ pub fn lsns_number(s: &[u8], at: usize) -> usize
 // The LSNs that the 65 bytes at a place spell, in an array; zero past them.
 pub fn lsns_read(s: &[u8], at: usize) -> [Lsn; 8]
     requires { at + 65 ≤ length s.now }
-    ensures { result ≡ lsnsLaid ((listed (number 8) 8).read (part at 65 s.now)) }
+    ensures { result ≡ lsns_laid ((listed (number 8) 8).read (part at 65 s.now)) }
 {
     let n = count_read(s, at, 8);
     let mut ns = no_checkpoints();
@@ -79,7 +79,7 @@ pub fn lsns_read(s: &[u8], at: usize) -> [Lsn; 8]
 // All LSNs of an array over the 64 bytes at a place.
 fn all_write(s: &mut [u8], at: usize, ns: [Lsn; 8])
     requires { at + 64 ≤ length s.old }
-    ensures { s.new ≡ put at (flat (λ n. bytes_of 8 (lsnSays n)) ns) s.old }
+    ensures { s.new ≡ put at (flat (λ n. bytes_of 8 (lsn_says n)) ns) s.old }
 {
     let mut i: usize = 0;
     while i < 8 {
@@ -93,7 +93,7 @@ fn all_write(s: &mut [u8], at: usize, ns: [Lsn; 8])
 pub fn lsns_write(s: &mut [u8], at: usize, n: usize, ns: [Lsn; 8])
     requires at_in_bounds { at + 65 ≤ length s.old }
     requires laid { IsLaid n ns }
-    ensures { s.new ≡ put at ((listed (number 8) 8).spell (map lsnSays (take n ns))) s.old }
+    ensures { s.new ≡ put at ((listed (number 8) 8).spell (map lsn_says (take n ns))) s.old }
 {
     store8(s, at, n as u8);
     all_write(s, at + 1, ns);

@@ -2,22 +2,22 @@
 ghost use Rattle.std.specs.Prelude.{◌≡◌, ◌+◌, ◌≤◌, length};
 ghost use Rattle.octets.specs.Bytes.{be, part, put};
 ghost use Rattle.rules.specs.Lists.{given};
-ghost use Rattle.rules.specs.Forms.{hashForm, segmentForm};
-ghost use Rattle.commit.specs.Says.{givenSays, segmentSays};
-ghost use Rattle.layout.specs.Codecs.{Codec, optional, inForm};
-ghost use Rattle.layout.specs.Values.{segmentBytes};
-ghost use Rattle.layout.specs.Records.{logLsnBytes, hashBytes};
-ghost use Rattle.commitbytes.specs.Laid.{keyForm, presenceOf, flagOf, hashLaid, givenSegment};
+ghost use Rattle.rules.specs.Forms.{hash_form, segment_form};
+ghost use Rattle.commit.specs.Says.{given_says, segment_says};
+ghost use Rattle.layout.specs.Codecs.{Codec, optional, in_form};
+ghost use Rattle.layout.specs.Values.{segment_bytes};
+ghost use Rattle.layout.specs.Records.{log_lsn_bytes, hash_bytes};
+ghost use Rattle.commitbytes.specs.Laid.{key_form, presence_of, flag_of, hash_laid, given_segment};
 
 use commit::{Presence, SegmentIdx};
-use core::commit_hash::CommitHash;
+use basics::commit_hash::CommitHash;
 use octets::{all_zero, load8, load64, store_hash, store8};
 use segmentbytes::{segment_form, segment_write};
 
 // Whether the 25 bytes at a place are a log and an LSN.
 pub fn key_form(s: &[u8], at: usize) -> bool
     requires { at + 25 ≤ length s.now }
-    ensures { result ≡ inForm logLsnBytes keyForm (part at 25 s.now) }
+    ensures { result ≡ in_form log_lsn_bytes key_form (part at 25 s.now) }
 {
     if load8(s, at) != 0 {
         return false;
@@ -28,7 +28,7 @@ pub fn key_form(s: &[u8], at: usize) -> bool
 // What the flag at a place says.
 pub fn flag_read(s: &[u8], at: usize) -> Presence
     requires { at + 1 ≤ length s.now }
-    ensures { result ≡ presenceOf (be (part at 1 s.now)) }
+    ensures { result ≡ presence_of (be (part at 1 s.now)) }
 {
     if load8(s, at) == 0 {
         return Presence::Missing;
@@ -38,7 +38,7 @@ pub fn flag_read(s: &[u8], at: usize) -> Presence
 
 // The flag that says so.
 fn flag(p: Presence) -> u8
-    ensures { result ≡ flagOf p }
+    ensures { result ≡ flag_of p }
 {
     match p {
         Presence::Missing => 0,
@@ -49,7 +49,7 @@ fn flag(p: Presence) -> u8
 // Whether the 33 bytes at a place are a hash, or none.
 pub fn hash_form(s: &[u8], at: usize) -> bool
     requires { at + 33 ≤ length s.now }
-    ensures { result ≡ inForm (optional hashBytes) (given hashForm) (part at 33 s.now) }
+    ensures { result ≡ in_form (optional hash_bytes) (given hash_form) (part at 33 s.now) }
 {
     let flag = load8(s, at);
     if flag == 0 {
@@ -61,8 +61,8 @@ pub fn hash_form(s: &[u8], at: usize) -> bool
 // A hash that may be missing, over the 33 bytes at a place.
 pub fn hash_write(s: &mut [u8], at: usize, has: Presence, hash: CommitHash)
     requires at_in_bounds { at + 33 ≤ length s.old }
-    requires hash_value { hashLaid (givenSays has hash) ≡ hash }
-    ensures { s.new ≡ put at ((optional hashBytes).spell (givenSays has hash)) s.old }
+    requires hash_value { hash_laid (given_says has hash) ≡ hash }
+    ensures { s.new ≡ put at ((optional hash_bytes).spell (given_says has hash)) s.old }
 {
     let f = flag(has);
     store8(s, at, f);
@@ -72,7 +72,7 @@ pub fn hash_write(s: &mut [u8], at: usize, has: Presence, hash: CommitHash)
 // Whether the 595 bytes at a place are a segment in form, or none.
 pub fn given_form(s: &[u8], at: usize) -> bool
     requires { at + 595 ≤ length s.now }
-    ensures { result ≡ inForm (optional segmentBytes) (given segmentForm) (part at 595 s.now) }
+    ensures { result ≡ in_form (optional segment_bytes) (given segment_form) (part at 595 s.now) }
 {
     let flag = load8(s, at);
     if flag == 0 {
@@ -87,8 +87,8 @@ pub fn given_form(s: &[u8], at: usize) -> bool
 // A segment that may be missing, over the 595 bytes at a place.
 pub fn given_write(s: &mut [u8], at: usize, has: Presence, x: SegmentIdx)
     requires at_in_bounds { at + 595 ≤ length s.old }
-    requires x_value { givenSegment (givenSays has (segmentSays x)) ≡ x }
-    ensures { s.new ≡ put at ((optional segmentBytes).spell (givenSays has (segmentSays x))) s.old }
+    requires x_value { given_segment (given_says has (segment_says x)) ≡ x }
+    ensures { s.new ≡ put at ((optional segment_bytes).spell (given_says has (segment_says x))) s.old }
 {
     let f = flag(has);
     store8(s, at, f);

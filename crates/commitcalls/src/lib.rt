@@ -1,19 +1,19 @@
 // The calls that read commits. Each answers on every input: 20 where the lent table is not one, then 1, then 3 for a lent place of another
 // size than a record, then the record or nothing. A record goes to lent bytes, in its table form.
 ghost use Rattle.std.specs.Prelude.{◌≡◌, true, length};
-ghost use Rattle.std.specs.Answers.{done};
-ghost use Rattle.std.specs.Says.{maybeLsnSays};
-ghost use Rattle.layout.specs.Records.{commitBytes};
-ghost use Rattle.layout.specs.Tables.{commitsIn, commitsOk};
+ghost use Rattle.basics.specs.Answers.{done};
+ghost use Rattle.basics.specs.Says.{maybe_lsn_says};
+ghost use Rattle.layout.specs.Records.{commit_bytes};
+ghost use Rattle.layout.specs.Tables.{commits_in, commits_ok};
 ghost use Rattle.layout.specs.Lent.{lent, sized};
-ghost use Rattle.rules.specs.Reads.{commitRead, latestLsnRead, latestCommitRead, pageCountRead};
-ghost use Rattle.commits.specs.Places.{placeSays, Inside};
-ghost use Rattle.commitcalls.specs.Says.{maybeCountSays, foundSays, Answered};
+ghost use Rattle.rules.specs.Reads.{commit_read, latest_lsn_read, latest_commit_read, page_count_read};
+ghost use Rattle.commits.specs.Places.{place_says, Inside};
+ghost use Rattle.commitcalls.specs.Says.{maybe_count_says, found_says, Answered};
 
 use commits::{Place, commits_formed};
-use core::id::LogId;
-use core::lsn::{Lsn, MaybeLsnAnswer};
-use core::page_count::PageCount;
+use basics::id::LogId;
+use basics::lsn::{Lsn, MaybeLsnAnswer};
+use basics::page_count::PageCount;
 use layout::COMMIT;
 
 // A page count or nothing, or the number of a refusal.
@@ -34,7 +34,7 @@ pub enum FoundAnswer {
 
 // The LSN of the log's latest commit, its highest: 20.
 pub fn latest_lsn(commits: &[u8], log: LogId) -> MaybeLsnAnswer
-    ensures { maybeLsnSays result ≡ lent (commitsOk commits.now) (latestLsnRead (commitsIn commits.now) log) }
+    ensures { maybe_lsn_says result ≡ lent (commits_ok commits.now) (latest_lsn_read (commits_in commits.now) log) }
 {
     if !commits_formed(commits) {
         return MaybeLsnAnswer::Refused(20);
@@ -47,7 +47,7 @@ pub fn latest_lsn(commits: &[u8], log: LogId) -> MaybeLsnAnswer
 
 // The page count of the log's commit at an LSN: 20, 1.
 pub fn page_count(commits: &[u8], log: LogId, lsn: Lsn) -> MaybeCountAnswer
-    ensures { maybeCountSays result ≡ lent (commitsOk commits.now) (pageCountRead (commitsIn commits.now) log lsn.0) }
+    ensures { maybe_count_says result ≡ lent (commits_ok commits.now) (page_count_read (commits_in commits.now) log lsn.0) }
 {
     if !commits_formed(commits) {
         return MaybeCountAnswer::Refused(20);
@@ -64,8 +64,8 @@ pub fn page_count(commits: &[u8], log: LogId, lsn: Lsn) -> MaybeCountAnswer
 
 // The commit at a place of the table written to `out`, if there is one.
 fn write_found(t: &[u8], place: Place, out: &mut [u8]) -> FoundAnswer
-    requires { (commitsOk t.now ≡ true) × Inside t.now place × (length out.old ≡ 722) }
-    ensures { Answered commitBytes (done (placeSays t.now place)) (foundSays result) out.old out.new }
+    requires { (commits_ok t.now ≡ true) × Inside t.now place × (length out.old ≡ 722) }
+    ensures { Answered commit_bytes (done (place_says t.now place)) (found_says result) out.old out.new }
 {
     match place {
         Place::At(i) => {
@@ -78,7 +78,7 @@ fn write_found(t: &[u8], place: Place, out: &mut [u8]) -> FoundAnswer
 
 // The log's commit at an LSN, to `out`: 20, 1, 3.
 pub fn commit_read(commits: &[u8], log: LogId, lsn: Lsn, out: &mut [u8]) -> FoundAnswer
-    ensures { Answered commitBytes (sized 722 out.old (lent (commitsOk commits.now) (commitRead (commitsIn commits.now) log lsn.0))) (foundSays result) out.old out.new }
+    ensures { Answered commit_bytes (sized 722 out.old (lent (commits_ok commits.now) (commit_read (commits_in commits.now) log lsn.0))) (found_says result) out.old out.new }
 {
     if !commits_formed(commits) {
         return FoundAnswer::Refused(20);
@@ -95,7 +95,7 @@ pub fn commit_read(commits: &[u8], log: LogId, lsn: Lsn, out: &mut [u8]) -> Foun
 
 // The log's latest commit, to `out`: 20, 3.
 pub fn latest_commit(commits: &[u8], log: LogId, out: &mut [u8]) -> FoundAnswer
-    ensures { Answered commitBytes (sized 722 out.old (lent (commitsOk commits.now) (latestCommitRead (commitsIn commits.now) log))) (foundSays result) out.old out.new }
+    ensures { Answered commit_bytes (sized 722 out.old (lent (commits_ok commits.now) (latest_commit_read (commits_in commits.now) log))) (found_says result) out.old out.new }
 {
     if !commits_formed(commits) {
         return FoundAnswer::Refused(20);

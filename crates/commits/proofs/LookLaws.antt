@@ -2,80 +2,80 @@
 -- the place of the log's last LSN is its latest if it is the log's, and the run between the keys of a range's ends is its commits.
 use Rattle.std.proofs.Common.{◌≡◌, ℕ, ◌-◌, ◌^◌, ◌<◌, ◌≤◌, Bool, true, false, cond, List, length, sym, ap, ◌∙◌, subst, arith}
 use mathlib.Core.Option.{Option, none, some}
-use Rattle.std.specs.Int.{lastLsn}
+use Rattle.basics.specs.Numbers.{last_lsn}
 use Rattle.rules.specs.Records.{Id, Commit}
-use Rattle.rules.specs.Tables.{sameId, getCommit, latest}
+use Rattle.rules.specs.Tables.{same_id, get_commit, latest}
 use Rattle.table.specs.Records.{spot, place}
 use Rattle.table.specs.Table.{count_of, recs}
 use Rattle.table.specs.Run.{RunOf}
 use Rattle.table.specs.declared.Spot.TheVariants.{At, Gap}
-use Rattle.table.proofs.Rows.{length-recs}
+use Rattle.table.proofs.Rows.{length_recs}
 use Rattle.table.proofs.Spots.{at_lt}
-use Rattle.layout.specs.Records.{logLsnBytes}
-use Rattle.layout.specs.Tables.{commitsIn, commitsOk}
+use Rattle.layout.specs.Records.{log_lsn_bytes}
+use Rattle.layout.specs.Tables.{commits_in, commits_ok}
 use Rattle.rows.specs.Lookups.{nth, only_if}
-use Rattle.rows.proofs.Finds.{Names, row-nth, row-end, get_at, get-gap}
-use Rattle.rows.proofs.Seeks.{latest-at, range-run}
-use Rattle.rows.proofs.Tables.{commits, commit-key}
-use Rattle.commits.specs.Places.{commitAt, placeSays, Inside, PlaceOf, RunOfRange}
+use Rattle.rows.proofs.Finds.{Names, row_nth, row_end, get_at, get_gap}
+use Rattle.rows.proofs.Seeks.{latest_at, range_run}
+use Rattle.rows.proofs.Tables.{commits, commit_key_lem}
+use Rattle.commits.specs.Places.{commit_at, place_says, Inside, PlaceOf, RunOfRange}
 use Rattle.commits.specs.declared.Place.{Place}
 use Rattle.commits.specs.declared.Place.TheVariants as Place
 
 -- the bytes that code built for a key name it
-named : (log : Id) (lsn : ℕ) (kb : List ℕ) → length log ≡ 16 → lsn < 2 ^ 64 → kb ≡ logLsnBytes.spell (log, lsn) → Names commits kb (log, lsn)
-named log lsn kb l h e = subst (λ (k : List ℕ). Names commits k (log, lsn)) (sym e) (commit-key (log, lsn) (l, h))
+named : (log : Id) (lsn : ℕ) (kb : List ℕ) → length log ≡ 16 → lsn < 2 ^ 64 → kb ≡ log_lsn_bytes.spell (log, lsn) → Names commits kb (log, lsn)
+named log lsn kb l h e = subst (λ (k : List ℕ). Names commits k (log, lsn)) (sym e) (commit_key_lem (log, lsn) (l, h))
 
-module _ (t : List ℕ) (ok : commitsOk t ≡ true) (log : Id) (l : length log ≡ 16) where
+module _ (t : List ℕ) (ok : commits_ok t ≡ true) (log : Id) (l : length log ≡ 16) where
   -- ---- the commit at an LSN
 
-  module _ (lsn : ℕ) (h : lsn < 2 ^ 64) (kb : List ℕ) (e : kb ≡ logLsnBytes.spell (log, lsn)) (i : ℕ) where
-    pub found_at : spot 25 kb (recs 722 t) ≡ At i → PlaceOf t (getCommit (commitsIn t) log lsn) (Place.At i)
+  module _ (lsn : ℕ) (h : lsn < 2 ^ 64) (kb : List ℕ) (e : kb ≡ log_lsn_bytes.spell (log, lsn)) (i : ℕ) where
+    pub found_at : spot 25 kb (recs 722 t) ≡ At i → PlaceOf t (get_commit (commits_in t) log lsn) (Place.At i)
     found_at p = record {
       says = sym (get_at commits kb (log, lsn) (named log lsn kb l h e) t ok i p);
-      inside = omega (arith, at_lt 25 kb (recs 722 t) i p, length-recs 722 t);
+      inside = omega (arith, at_lt 25 kb (recs 722 t) i p, length_recs 722 t);
     }
 
-    pub found-gap : spot 25 kb (recs 722 t) ≡ Gap i → PlaceOf t (getCommit (commitsIn t) log lsn) Place.Missing
-    found-gap p = record { says = sym (get-gap commits kb (log, lsn) (named log lsn kb l h e) t ok i p); inside = tt }
+    pub found_gap : spot 25 kb (recs 722 t) ≡ Gap i → PlaceOf t (get_commit (commits_in t) log lsn) Place.Missing
+    found_gap p = record { says = sym (get_gap commits kb (log, lsn) (named log lsn kb l h e) t ok i p); inside = tt }
 
   -- ---- the latest commit
 
-  module _ (kb : List ℕ) (e : kb ≡ logLsnBytes.spell (log, 2 ^ 64 - 1)) (i : ℕ) (p : i ≡ place (spot 25 kb (recs 722 t))) where
-    first-there : latest (commitsIn t) log ≡ only_if (λ c. sameId log c.log) (nth i (commitsIn t).rows)
-    unfolding lastLsn
-    first-there = latest-at t ok log kb (named log (2 ^ 64 - 1) kb l (omega arith) e) i p
+  module _ (kb : List ℕ) (e : kb ≡ log_lsn_bytes.spell (log, 2 ^ 64 - 1)) (i : ℕ) (p : i ≡ place (spot 25 kb (recs 722 t))) where
+    first_there : latest (commits_in t) log ≡ only_if (λ c. same_id log c.log) (nth i (commits_in t).rows)
+    unfolding last_lsn
+    first_there = latest_at t ok log kb (named log (2 ^ 64 - 1) kb l (omega arith) e) i p
 
-    pub latest-end : count_of t ≤ i → PlaceOf t (latest (commitsIn t) log) Place.Missing
-    latest-end h = record { says = sym (first-there ∙ ap (only_if (λ (c : Commit). sameId log c.log)) (row-end commits t i h)); inside = tt }
+    pub latest_end : count_of t ≤ i → PlaceOf t (latest (commits_in t) log) Place.Missing
+    latest_end h = record { says = sym (first_there ∙ ap (only_if (λ (c : Commit). same_id log c.log)) (row_end commits t i h)); inside = tt }
 
-    module _ (h : i < count_of t) (b : Bool) (eb : b ≡ sameId log (commitAt t i).log) where
-      first-is : latest (commitsIn t) log ≡ cond b (some (commitAt t i)) none
-      first-is =
-          first-there
-          ∙ ap (only_if (λ (c : Commit). sameId log c.log)) (row-nth commits t i h)
-          ∙ ap (λ (x : Bool). cond x (some (commitAt t i)) none) (sym eb)
+    module _ (h : i < count_of t) (b : Bool) (eb : b ≡ same_id log (commit_at t i).log) where
+      first_is : latest (commits_in t) log ≡ cond b (some (commit_at t i)) none
+      first_is =
+          first_there
+          ∙ ap (only_if (λ (c : Commit). same_id log c.log)) (row_nth commits t i h)
+          ∙ ap (λ (x : Bool). cond x (some (commit_at t i)) none) (sym eb)
 
-      pub latest-other : b ≡ false → PlaceOf t (latest (commitsIn t) log) Place.Missing
-      latest-other f = record { says = sym (first-is ∙ ap (λ (x : Bool). cond x (some (commitAt t i)) none) f); inside = tt }
+      pub latest_other : b ≡ false → PlaceOf t (latest (commits_in t) log) Place.Missing
+      latest_other f = record { says = sym (first_is ∙ ap (λ (x : Bool). cond x (some (commit_at t i)) none) f); inside = tt }
 
-      pub latest-here : b ≡ true → PlaceOf t (latest (commitsIn t) log) (Place.At i)
-      latest-here f = record { says = sym (first-is ∙ ap (λ (x : Bool). cond x (some (commitAt t i)) none) f); inside = h }
+      pub latest_here : b ≡ true → PlaceOf t (latest (commits_in t) log) (Place.At i)
+      latest_here f = record { says = sym (first_is ∙ ap (λ (x : Bool). cond x (some (commit_at t i)) none) f); inside = h }
 
   -- ---- the commits of a range
 
-  pub range-found : (start end : ℕ) (a b : List ℕ) → start < 2 ^ 64 → end < 2 ^ 64 → a ≡ logLsnBytes.spell (log, end) → b ≡ logLsnBytes.spell (log, start) → (i j : ℕ)
+  pub range_found : (start end : ℕ) (a b : List ℕ) → start < 2 ^ 64 → end < 2 ^ 64 → a ≡ log_lsn_bytes.spell (log, end) → b ≡ log_lsn_bytes.spell (log, start) → (i j : ℕ)
       → RunOf 722 25 a b t i j → RunOfRange t (record { log = log; start = start; end = end }) i j
-  range-found start end a b hs he ea eb i j r = record {
-    places = subst (λ (x : List ℕ). RunOf 722 25 x (logLsnBytes.spell (log, start)) t i j) ea (subst (λ (y : List ℕ). RunOf 722 25 a y t i j) eb r);
-    commits = range-run t ok (record { log = log; start = start; end = end }) a b (named log end a l he ea) (named log start b l hs eb) i j r;
+  range_found start end a b hs he ea eb i j r = record {
+    places = subst (λ (x : List ℕ). RunOf 722 25 x (log_lsn_bytes.spell (log, start)) t i j) ea (subst (λ (y : List ℕ). RunOf 722 25 a y t i j) eb r);
+    commits = range_run t ok (record { log = log; start = start; end = end }) a b (named log end a l he ea) (named log start b l hs eb) i j r;
   }
 
 -- ---- what a place says to a caller
 
 module _ (t : List ℕ) (o : Option Commit) (p : Place) (h : PlaceOf t o p) where
   -- the commit that stands there is the one looked up, and it is in the table
-  pub place_at : (i : ℕ) → p ≡ Place.At i → (some (commitAt t i) ≡ o) × (i < count_of t)
-  place_at i e = (ap (placeSays t) (sym e) ∙ h.says, subst (Inside t) e h.inside)
+  pub place_at_lem : (i : ℕ) → p ≡ Place.At i → (some (commit_at t i) ≡ o) × (i < count_of t)
+  place_at_lem i e = (ap (place_says t) (sym e) ∙ h.says, subst (Inside t) e h.inside)
 
-  pub place-missing : p ≡ Place.Missing → none ≡ o
-  place-missing e = ap (placeSays t) (sym e) ∙ h.says
+  pub place_missing : p ≡ Place.Missing → none ≡ o
+  place_missing e = ap (place_says t) (sym e) ∙ h.says

@@ -1,16 +1,16 @@
 // The table of commits in lent bytes: its check, where a commit stands, and single fields of a stored commit, read where they stand.
 ghost use Rattle.std.specs.Prelude.{◌≡◌, ◌+◌, ◌*◌, ◌<◌, ◌≤◌, true, length};
 ghost use Rattle.table.specs.Table.{count_of};
-ghost use Rattle.layout.specs.Tables.{commitsIn, commitsOk};
+ghost use Rattle.layout.specs.Tables.{commits_in, commits_ok};
 ghost use Rattle.rules.specs.Lists.{is_some};
-ghost use Rattle.rules.specs.Tables.{sameId, getCommit, latest};
-ghost use Rattle.rules.specs.Push.{isHash};
-ghost use Rattle.rules.specs.Save.{hasSid};
-ghost use Rattle.commits.specs.Places.{commitAt, PlaceOf, RunOfRange};
+ghost use Rattle.rules.specs.Tables.{same_id, get_commit, latest};
+ghost use Rattle.rules.specs.Push.{is_hash};
+ghost use Rattle.rules.specs.Save.{has_sid};
+ghost use Rattle.commits.specs.Places.{commit_at, PlaceOf, RunOfRange};
 
 use commit::Presence;
 use commitbytes::{commit_form, fields};
-use core::id::{LogId, SegmentId};
+use basics::id::{LogId, SegmentId};
 use layout::{COMMIT, COMMIT_KEY, log_key};
 
 // Where a commit stands in the table, or that there is none.
@@ -22,7 +22,7 @@ pub enum Place {
 
 // Whether bytes are a table of commits: their count, the order of their keys and the form of each (20).
 pub fn commits_formed(t: &[u8]) -> bool
-    ensures { result ≡ commitsOk t.now }
+    ensures { result ≡ commits_ok t.now }
 {
     if !table::well_ordered(t, COMMIT, COMMIT_KEY) {
         return false;
@@ -40,7 +40,7 @@ pub fn commits_formed(t: &[u8]) -> bool
 
 // Where record i begins.
 pub fn row(t: &[u8], i: usize) -> usize
-    requires { (commitsOk t.now ≡ true) × (i < count_of t.now) }
+    requires { (commits_ok t.now ≡ true) × (i < count_of t.now) }
     ensures { (result ≡ 2 + i * 722) × (result + 722 ≤ length t.now) }
 {
     2 + i * COMMIT
@@ -50,8 +50,8 @@ pub fn row(t: &[u8], i: usize) -> usize
 
 // Its LSN.
 pub fn lsn_at(t: &[u8], i: usize) -> u64
-    requires { (commitsOk t.now ≡ true) × (i < count_of t.now) }
-    ensures { result ≡ (commitAt t.now i).lsn }
+    requires { (commits_ok t.now ≡ true) × (i < count_of t.now) }
+    ensures { result ≡ (commit_at t.now i).lsn }
 {
     let lsn = fields::commit_lsn(t, row(t, i));
     lsn.0
@@ -59,8 +59,8 @@ pub fn lsn_at(t: &[u8], i: usize) -> u64
 
 // Its page count.
 pub fn count_at(t: &[u8], i: usize) -> u32
-    requires { (commitsOk t.now ≡ true) × (i < count_of t.now) }
-    ensures { result ≡ (commitAt t.now i).count }
+    requires { (commits_ok t.now ≡ true) × (i < count_of t.now) }
+    ensures { result ≡ (commit_at t.now i).count }
 {
     let count = fields::commit_count(t, row(t, i));
     count.0
@@ -68,24 +68,24 @@ pub fn count_at(t: &[u8], i: usize) -> u32
 
 // Whether it is a commit of that log.
 pub fn log_is(t: &[u8], i: usize, log: LogId) -> bool
-    requires { (commitsOk t.now ≡ true) × (i < count_of t.now) }
-    ensures { result ≡ sameId log (commitAt t.now i).log }
+    requires { (commits_ok t.now ≡ true) × (i < count_of t.now) }
+    ensures { result ≡ same_id log (commit_at t.now i).log }
 {
     octets::same(&log, 0, t, row(t, i) + 1, 16)
 }
 
 // Whether its hash is there and is that one.
 pub fn hash_is(t: &[u8], i: usize, hash: [u8; 32]) -> bool
-    requires { (commitsOk t.now ≡ true) × (i < count_of t.now) }
-    ensures { result ≡ isHash (commitAt t.now i).hash hash }
+    requires { (commits_ok t.now ≡ true) × (i < count_of t.now) }
+    ensures { result ≡ is_hash (commit_at t.now i).hash hash }
 {
     fields::commit_hash_is(t, row(t, i), hash)
 }
 
 // Whether it has a segment.
 pub fn has_segment_at(t: &[u8], i: usize) -> bool
-    requires { (commitsOk t.now ≡ true) × (i < count_of t.now) }
-    ensures { result ≡ is_some (commitAt t.now i).segment }
+    requires { (commits_ok t.now ≡ true) × (i < count_of t.now) }
+    ensures { result ≡ is_some (commit_at t.now i).segment }
 {
     match fields::commit_has_segment(t, row(t, i)) {
         Presence::Given => true,
@@ -95,8 +95,8 @@ pub fn has_segment_at(t: &[u8], i: usize) -> bool
 
 // Whether its segment is there and has that identifier.
 pub fn sid_is(t: &[u8], i: usize, sid: SegmentId) -> bool
-    requires { (commitsOk t.now ≡ true) × (i < count_of t.now) }
-    ensures { result ≡ hasSid sid (commitAt t.now i).segment }
+    requires { (commits_ok t.now ≡ true) × (i < count_of t.now) }
+    ensures { result ≡ has_sid sid (commit_at t.now i).segment }
 {
     fields::commit_sid_is(t, row(t, i), sid)
 }
@@ -105,8 +105,8 @@ pub fn sid_is(t: &[u8], i: usize, sid: SegmentId) -> bool
 
 // Where the log's commit at an LSN stands.
 pub fn find_commit(t: &[u8], log: LogId, lsn: u64) -> Place
-    requires { commitsOk t.now ≡ true }
-    ensures { PlaceOf t.now (getCommit (commitsIn t.now) log lsn) result }
+    requires { commits_ok t.now ≡ true }
+    ensures { PlaceOf t.now (get_commit (commits_in t.now) log lsn) result }
 {
     let key = log_key(log, lsn);
     match table::find(t, COMMIT, COMMIT_KEY, &key) {
@@ -117,8 +117,8 @@ pub fn find_commit(t: &[u8], log: LogId, lsn: u64) -> Place
 
 // Where the log's latest commit stands: the first record at or after the key of the last LSN, if it is the log's.
 pub fn latest(t: &[u8], log: LogId) -> Place
-    requires { commitsOk t.now ≡ true }
-    ensures { PlaceOf t.now (latest (commitsIn t.now) log) result }
+    requires { commits_ok t.now ≡ true }
+    ensures { PlaceOf t.now (latest (commits_in t.now) log) result }
 {
     let key = log_key(log, 18446744073709551615);
     let i = table::from_key(t, COMMIT, COMMIT_KEY, &key);
@@ -133,7 +133,7 @@ pub fn latest(t: &[u8], log: LogId) -> Place
 
 // The run of the log's commits from the LSN `end` down to `start`.
 pub fn range_run(t: &[u8], log: LogId, start: u64, end: u64) -> table::Run
-    requires { commitsOk t.now ≡ true }
+    requires { commits_ok t.now ≡ true }
     ensures { RunOfRange t.now (record { log = log; start = start; end = end }) result.from result.to }
 {
     let first = log_key(log, end);

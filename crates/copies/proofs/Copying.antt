@@ -3,109 +3,109 @@
 -- tables are those of the rule's `write_all`, laid over the bytes at entry.
 use Rattle.std.proofs.Common.{◌≡◌, ℕ, suc, ◌+◌, Bool, true, ◌&&◌, List, [], ◌∷◌, ◌++◌, length, sym, refl, ap, ◌∙◌, subst, arith}
 use Rattle.octets.specs.Bytes.{AreBytes}
-use Rattle.std.specs.Orders.{logLsn, logPageLsn}
+use Rattle.basics.specs.Orders.{log_lsn, log_page_lsn}
 use Rattle.rules.specs.Lists.{all}
-use Rattle.rules.specs.Records.{Id, Commit, Checkpoint, Entry, commitKey, checkpointKey, entryKey}
-use Rattle.rules.specs.Forms.{commitForm, checkpointForm, entryForm}
-use Rattle.rules.specs.Tables.{Table, fits, store, storeAll, put_all}
-use Rattle.rules.specs.Write.{checkpointsOf, entriesOf, write, write_all, logsFit}
+use Rattle.rules.specs.Records.{Id, Commit, Checkpoint, Entry, commit_key, checkpoint_key, entry_key}
+use Rattle.rules.specs.Forms.{commit_form, checkpoint_form, entry_form}
+use Rattle.rules.specs.Tables.{Table, fits, store, store_all, put_all}
+use Rattle.rules.specs.Write.{checkpoints_of, entries_of, write, write_all, logs_fit}
 use Rattle.rules.specs.Room.{each}
-use Rattle.rules.specs.Walk.{pathCommits}
+use Rattle.rules.specs.Walk.{path_commits}
 use Rattle.rules.specs.Copies.{renumbered}
-use Rattle.rules.proofs.TableLaws.{and-fst, and-snd, and_both, all_append}
-use Rattle.rules.proofs.Write.{entries-form, checkpoints-form}
-use Rattle.rules.proofs.Kept.{path-forms, renumbered-forms}
-use Rattle.rules.proofs.RoomOfCalls.{commits-all, checkpoints-all, index-all}
-use Rattle.layout.specs.Records.{commitBytes, checkpointBytes, entryBytes}
-use Rattle.layout.specs.Tables.{commitsIn, commitsOk, checkpointsIn, checkpointsOk, indexIn, indexOk, laidOver}
-use Rattle.layout.proofs.PlaceLaws.{id-form}
-use Rattle.rows.proofs.Puts.{Storing, storing-start, storing-many, many-fits, many-table, storing-end}
-use Rattle.rows.proofs.Rows.{formed-forms}
+use Rattle.rules.proofs.TableLaws.{and_fst, and_snd, and_both, all_append}
+use Rattle.rules.proofs.Write.{entries_form, checkpoints_form}
+use Rattle.rules.proofs.Kept.{path_forms, renumbered_forms}
+use Rattle.rules.proofs.RoomOfCalls.{commits_all, checkpoints_all, index_all}
+use Rattle.layout.specs.Records.{commit_bytes, checkpoint_bytes, entry_bytes}
+use Rattle.layout.specs.Tables.{commits_in, commits_ok, checkpoints_in, checkpoints_ok, index_in, index_ok, laid_over}
+use Rattle.layout.proofs.PlaceLaws.{id_form_lem}
+use Rattle.rows.proofs.Puts.{Storing, storing_start, storing_many, many_fits, many_table, storing_end}
+use Rattle.rows.proofs.Rows.{formed_forms}
 use Rattle.rows.proofs.Tables.{commits, checkpoints, index}
-use Rattle.commits.specs.Places.{commitAt}
-use Rattle.writecalls.specs.Written.{commitIn, logsIn}
-use Rattle.paths.specs.Left.{otherLog, isLeft, leftSays, Meets}
+use Rattle.commits.specs.Places.{commit_at}
+use Rattle.writecalls.specs.Written.{commit_in, logs_in}
+use Rattle.paths.specs.Left.{other_log, is_left, left_says, Meets}
 use Rattle.paths.specs.declared.Left.{Left}
 use Rattle.paths.specs.declared.Met.{Met}
-use Rattle.paths.proofs.PathLaws.{path-other}
-use Rattle.paths.proofs.LeftLaws.{left-small}
+use Rattle.paths.proofs.PathLaws.{path_other}
+use Rattle.paths.proofs.LeftLaws.{left_small}
 use Rattle.copies.specs.Copied.{renumber}
 
 -- ---- forms
 
-each-forms : {A B : Type 0} (f : A → List B) (good : A → Bool) (form : B → Bool) → ((x : A) → good x ≡ true → all form (f x) ≡ true) → (l : List A) → all good l ≡ true → all form (each f l) ≡ true
+each_forms : {A B : Type 0} (f : A → List B) (good : A → Bool) (form : B → Bool) → ((x : A) → good x ≡ true → all form (f x) ≡ true) → (l : List A) → all good l ≡ true → all form (each f l) ≡ true
 unfolding all each
-each-forms f good form k [] a = refl
-each-forms f good form k (x ∷ xs) a =
-    all_append form (f x) (each f xs) ∙ and_both (k x (and-fst (good x) (all good xs) a)) (each-forms f good form k xs (and-snd (good x) (all good xs) a))
+each_forms f good form k [] a = refl
+each_forms f good form k (x ∷ xs) a =
+    all_append form (f x) (each f xs) ∙ and_both (k x (and_fst (good x) (all good xs) a)) (each_forms f good form k xs (and_snd (good x) (all good xs) a))
 
 -- ---- the invariant
 
 -- the commits to come, and what they add to each table
 pub record Copying (log : Id) (wc : Table Commit) (wk : Table Checkpoint) (we : Table Entry) (cs₀ ks₀ es₀ cs ks es : List ℕ) (rest : Left) (k : ℕ) : Type 0 where
-  pub inCommits : Storing commits (renumbered log (pathCommits (commitsIn cs) (leftSays rest))) cs₀ wc cs
-  pub inCheckpoints : Storing checkpoints (each checkpointsOf (renumbered log (pathCommits (commitsIn cs) (leftSays rest)))) ks₀ wk ks
-  pub inIndex : Storing index (each entriesOf (renumbered log (pathCommits (commitsIn cs) (leftSays rest)))) es₀ we es
-  pub is-left : isLeft rest
-  pub count : k ≡ length (pathCommits (commitsIn cs) (leftSays rest))
-  pub others : all (otherLog log) (leftSays rest) ≡ true
+  pub in_commits : Storing commits (renumbered log (path_commits (commits_in cs) (left_says rest))) cs₀ wc cs
+  pub in_checkpoints : Storing checkpoints (each checkpoints_of (renumbered log (path_commits (commits_in cs) (left_says rest)))) ks₀ wk ks
+  pub in_index : Storing index (each entries_of (renumbered log (path_commits (commits_in cs) (left_says rest)))) es₀ we es
+  pub is_left_lem : is_left rest
+  pub count : k ≡ length (path_commits (commits_in cs) (left_says rest))
+  pub others : all (other_log log) (left_says rest) ≡ true
 
 module _ (log : Id) (wc : Table Commit) (wk : Table Checkpoint) (we : Table Entry) (cs₀ ks₀ es₀ cs ks es : List ℕ) (rest : Left) (k : ℕ) (h : Copying log wc wk we cs₀ ks₀ es₀ cs ks es rest k) where
   module _ (m : Met) (meets : Meets cs rest m) where
     -- the copy to come, and those after it
     abbrev x : Commit
-    x = renumber log k (commitAt cs m.row)
+    x = renumber log k (commit_at cs m.row)
 
     abbrev after : List Commit
-    after = renumbered log (pathCommits (commitsIn cs) (leftSays m.left))
+    after = renumbered log (path_commits (commits_in cs) (left_says m.left))
 
-    is-next : k ≡ suc (length (pathCommits (commitsIn cs) (leftSays m.left)))
-    is-next = h.count ∙ ap (length {A = Commit}) meets.here
+    is_next : k ≡ suc (length (path_commits (commits_in cs) (left_says m.left)))
+    is_next = h.count ∙ ap (length {A = Commit}) meets.here
 
-    coming : renumbered log (pathCommits (commitsIn cs) (leftSays rest)) ≡ renumber log k (commitAt cs m.row) ∷ renumbered log (pathCommits (commitsIn cs) (leftSays m.left))
+    coming : renumbered log (path_commits (commits_in cs) (left_says rest)) ≡ renumber log k (commit_at cs m.row) ∷ renumbered log (path_commits (commits_in cs) (left_says m.left))
     coming =
         ap (renumbered log) meets.here
-        ∙ ap (λ (n : ℕ). renumber log n (commitAt cs m.row) ∷ renumbered log (pathCommits (commitsIn cs) (leftSays m.left))) (sym is-next)
+        ∙ ap (λ (n : ℕ). renumber log n (commit_at cs m.row) ∷ renumbered log (path_commits (commits_in cs) (left_says m.left))) (sym is_next)
 
-    c-next : Storing commits ((renumber log k (commitAt cs m.row) ∷ []) ++ renumbered log (pathCommits (commitsIn cs) (leftSays m.left))) cs₀ wc cs
-    c-next = subst (λ (l : List Commit). Storing commits l cs₀ wc cs) coming h.inCommits
+    c_next : Storing commits ((renumber log k (commit_at cs m.row) ∷ []) ++ renumbered log (path_commits (commits_in cs) (left_says m.left))) cs₀ wc cs
+    c_next = subst (λ (l : List Commit). Storing commits l cs₀ wc cs) coming h.in_commits
 
-    k-next : Storing checkpoints (checkpointsOf (renumber log k (commitAt cs m.row)) ++ each checkpointsOf (renumbered log (pathCommits (commitsIn cs) (leftSays m.left)))) ks₀ wk ks
+    k_next : Storing checkpoints (checkpoints_of (renumber log k (commit_at cs m.row)) ++ each checkpoints_of (renumbered log (path_commits (commits_in cs) (left_says m.left)))) ks₀ wk ks
     unfolding each
-    k-next = subst (λ (l : List Commit). Storing checkpoints (each checkpointsOf l) ks₀ wk ks) coming h.inCheckpoints
+    k_next = subst (λ (l : List Commit). Storing checkpoints (each checkpoints_of l) ks₀ wk ks) coming h.in_checkpoints
 
-    e-next : Storing index (entriesOf (renumber log k (commitAt cs m.row)) ++ each entriesOf (renumbered log (pathCommits (commitsIn cs) (leftSays m.left)))) es₀ we es
+    e_next : Storing index (entries_of (renumber log k (commit_at cs m.row)) ++ each entries_of (renumbered log (path_commits (commits_in cs) (left_says m.left)))) es₀ we es
     unfolding each
-    e-next = subst (λ (l : List Commit). Storing index (each entriesOf l) es₀ we es) coming h.inIndex
+    e_next = subst (λ (l : List Commit). Storing index (each entries_of l) es₀ we es) coming h.in_index
 
-    module _ (b : List ℕ) (is : commitIn b ≡ renumber log k (commitAt cs m.row)) where
+    module _ (b : List ℕ) (is : commit_in b ≡ renumber log k (commit_at cs m.row)) where
       -- there is room for it
-      pub copy-fits : logsFit (write (logsIn cs ks es) (commitIn b)) ≡ true
-      unfolding logsFit write put_all
-      copy-fits =
-          ap (λ (c : Commit). logsFit (write (logsIn cs ks es) c)) is
-          ∙ and_both (and_both (many-fits commits (x ∷ []) after cs₀ wc cs c-next) (many-fits checkpoints (checkpointsOf x) (each checkpointsOf after) ks₀ wk ks k-next)) (many-fits index (entriesOf x) (each entriesOf after) es₀ we es e-next)
+      pub copy_fits : logs_fit (write (logs_in cs ks es) (commit_in b)) ≡ true
+      unfolding logs_fit write put_all
+      copy_fits =
+          ap (λ (c : Commit). logs_fit (write (logs_in cs ks es) c)) is
+          ∙ and_both (and_both (many_fits commits (x ∷ []) after cs₀ wc cs c_next) (many_fits checkpoints (checkpoints_of x) (each checkpoints_of after) ks₀ wk ks k_next)) (many_fits index (entries_of x) (each entries_of after) es₀ we es e_next)
 
       -- and after its write the others are to come
-      pub copying-next : (u v w : List ℕ) → u ≡ laidOver commitBytes (write (logsIn cs ks es) (commitIn b)).commits cs
-          → v ≡ laidOver checkpointBytes (write (logsIn cs ks es) (commitIn b)).checkpoints ks
-          → w ≡ laidOver entryBytes (write (logsIn cs ks es) (commitIn b)).index es → (j : ℕ) → j + 1 ≡ k
+      pub copying_next : (u v w : List ℕ) → u ≡ laid_over commit_bytes (write (logs_in cs ks es) (commit_in b)).commits cs
+          → v ≡ laid_over checkpoint_bytes (write (logs_in cs ks es) (commit_in b)).checkpoints ks
+          → w ≡ laid_over entry_bytes (write (logs_in cs ks es) (commit_in b)).index es → (j : ℕ) → j + 1 ≡ k
           → Copying log wc wk we cs₀ ks₀ es₀ u v w m.left j
       unfolding write put_all
-      copying-next u v w eu ev ew j ej =
-          let du : u ≡ laidOver commitBytes (storeAll commitKey logLsn (renumber log k (commitAt cs m.row) ∷ []) (commitsIn cs)) cs = eu ∙ ap (λ (c : Commit). laidOver commitBytes (store commitKey logLsn c (commitsIn cs)) cs) is in
-          let dv : v ≡ laidOver checkpointBytes (storeAll checkpointKey logLsn (checkpointsOf (renumber log k (commitAt cs m.row))) (checkpointsIn ks)) ks = ev ∙ ap (λ (c : Commit). laidOver checkpointBytes (storeAll checkpointKey logLsn (checkpointsOf c) (checkpointsIn ks)) ks) is in
-          let dw : w ≡ laidOver entryBytes (storeAll entryKey logPageLsn (entriesOf (renumber log k (commitAt cs m.row))) (indexIn es)) es = ew ∙ ap (λ (c : Commit). laidOver entryBytes (storeAll entryKey logPageLsn (entriesOf c) (indexIn es)) es) is in
+      copying_next u v w eu ev ew j ej =
+          let du : u ≡ laid_over commit_bytes (store_all commit_key log_lsn (renumber log k (commit_at cs m.row) ∷ []) (commits_in cs)) cs = eu ∙ ap (λ (c : Commit). laid_over commit_bytes (store commit_key log_lsn c (commits_in cs)) cs) is in
+          let dv : v ≡ laid_over checkpoint_bytes (store_all checkpoint_key log_lsn (checkpoints_of (renumber log k (commit_at cs m.row))) (checkpoints_in ks)) ks = ev ∙ ap (λ (c : Commit). laid_over checkpoint_bytes (store_all checkpoint_key log_lsn (checkpoints_of c) (checkpoints_in ks)) ks) is in
+          let dw : w ≡ laid_over entry_bytes (store_all entry_key log_page_lsn (entries_of (renumber log k (commit_at cs m.row))) (index_in es)) es = ew ∙ ap (λ (c : Commit). laid_over entry_bytes (store_all entry_key log_page_lsn (entries_of c) (index_in es)) es) is in
           let o = meets.others log h.others in
-          let same : pathCommits (commitsIn u) (leftSays m.left) ≡ pathCommits (commitsIn cs) (leftSays m.left) =
-          ap (λ (t : Table Commit). pathCommits t (leftSays m.left)) (many-table commits (x ∷ []) after cs₀ wc cs c-next u du)
-          ∙ path-other (commitsIn cs) (renumber log k (commitAt cs m.row)) (leftSays m.left) o in
+          let same : path_commits (commits_in u) (left_says m.left) ≡ path_commits (commits_in cs) (left_says m.left) =
+          ap (λ (t : Table Commit). path_commits t (left_says m.left)) (many_table commits (x ∷ []) after cs₀ wc cs c_next u du)
+          ∙ path_other (commits_in cs) (renumber log k (commit_at cs m.row)) (left_says m.left) o in
           record {
-            inCommits = subst (λ (l : List Commit). Storing commits (renumbered log l) cs₀ wc u) (sym same) (storing-many commits (x ∷ []) after cs₀ wc cs c-next u du);
-            inCheckpoints = subst (λ (l : List Commit). Storing checkpoints (each checkpointsOf (renumbered log l)) ks₀ wk v) (sym same) (storing-many checkpoints (checkpointsOf x) (each checkpointsOf after) ks₀ wk ks k-next v dv);
-            inIndex = subst (λ (l : List Commit). Storing index (each entriesOf (renumbered log l)) es₀ we w) (sym same) (storing-many index (entriesOf x) (each entriesOf after) es₀ we es e-next w dw);
-            is-left = meets.is-left;
-            count = omega (arith, is-next, ej, ap (length {A = Commit}) same);
+            in_commits = subst (λ (l : List Commit). Storing commits (renumbered log l) cs₀ wc u) (sym same) (storing_many commits (x ∷ []) after cs₀ wc cs c_next u du);
+            in_checkpoints = subst (λ (l : List Commit). Storing checkpoints (each checkpoints_of (renumbered log l)) ks₀ wk v) (sym same) (storing_many checkpoints (checkpoints_of x) (each checkpoints_of after) ks₀ wk ks k_next v dv);
+            in_index = subst (λ (l : List Commit). Storing index (each entries_of (renumbered log l)) es₀ we w) (sym same) (storing_many index (entries_of x) (each entries_of after) es₀ we es e_next w dw);
+            is_left_lem = meets.is_left;
+            count = omega (arith, is_next, ej, ap (length {A = Commit}) same);
             others = o;
           }
 
@@ -114,65 +114,65 @@ module _ (log : Id) (wc : Table Commit) (wk : Table Checkpoint) (we : Table Entr
 module _ (cs ks es : List ℕ) (left : Left) (log : Id) where
   -- the commits that the path gives, renumbered
   abbrev pub copies : List Commit
-  copies = renumbered log (pathCommits (commitsIn cs) (leftSays left))
+  copies = renumbered log (path_commits (commits_in cs) (left_says left))
 
   -- the tables with all of them
-  abbrev pub endCommits : Table Commit
-  endCommits = storeAll commitKey logLsn copies (commitsIn cs)
+  abbrev pub end_commits : Table Commit
+  end_commits = store_all commit_key log_lsn copies (commits_in cs)
 
-  abbrev pub endCheckpoints : Table Checkpoint
-  endCheckpoints = storeAll checkpointKey logLsn (each checkpointsOf copies) (checkpointsIn ks)
+  abbrev pub end_checkpoints : Table Checkpoint
+  end_checkpoints = store_all checkpoint_key log_lsn (each checkpoints_of copies) (checkpoints_in ks)
 
-  abbrev pub endIndex : Table Entry
-  endIndex = storeAll entryKey logPageLsn (each entriesOf copies) (indexIn es)
+  abbrev pub end_index : Table Entry
+  end_index = store_all entry_key log_page_lsn (each entries_of copies) (index_in es)
 
-  pub fit_parts : logsFit (write_all (logsIn cs ks es) copies) ≡ (fits endCommits && fits endCheckpoints && fits endIndex)
-  unfolding logsFit
-  fit_parts = rw (commits-all (logsIn cs ks es) copies, checkpoints-all (logsIn cs ks es) copies, index-all (logsIn cs ks es) copies) refl
+  pub fit_parts : logs_fit (write_all (logs_in cs ks es) copies) ≡ (fits end_commits && fits end_checkpoints && fits end_index)
+  unfolding logs_fit
+  fit_parts = rw (commits_all (logs_in cs ks es) copies, checkpoints_all (logs_in cs ks es) copies, index_all (logs_in cs ks es) copies) refl
 
-  module _ (good : (commitsOk cs ≡ true) × (checkpointsOk ks ≡ true) × (indexOk es ≡ true)) (long : length left.path ≡ 8) (n : ℕ)
-      (todo-is : isLeft left × (n ≡ length (pathCommits (commitsIn cs) (leftSays left))) × (all (otherLog log) (leftSays left) ≡ true))
-      (room : logsFit (write_all (logsIn cs ks es) copies) ≡ true) (idLong : length log ≡ 16) (idBytes : AreBytes log) where
-    copy-forms : all commitForm copies ≡ true
-    copy-forms =
-        renumbered-forms log (pathCommits (commitsIn cs) (leftSays left)) (id-form log idLong idBytes) (left-small cs good.0 left long)
-        (path-forms (commitsIn cs) (leftSays left) (formed-forms commits cs good.0))
+  module _ (good : (commits_ok cs ≡ true) × (checkpoints_ok ks ≡ true) × (index_ok es ≡ true)) (long : length left.path ≡ 8) (n : ℕ)
+      (todo_is : is_left left × (n ≡ length (path_commits (commits_in cs) (left_says left))) × (all (other_log log) (left_says left) ≡ true))
+      (room : logs_fit (write_all (logs_in cs ks es) copies) ≡ true) (id_long : length log ≡ 16) (id_bytes : AreBytes log) where
+    copy_forms : all commit_form copies ≡ true
+    copy_forms =
+        renumbered_forms log (path_commits (commits_in cs) (left_says left)) (id_form_lem log id_long id_bytes) (left_small cs good.0 left long)
+        (path_forms (commits_in cs) (left_says left) (formed_forms commits cs good.0))
 
-    two : (fits endCommits && fits endCheckpoints) ≡ true
-    two = and-fst (fits endCommits && fits endCheckpoints) (fits endIndex) (sym fit_parts ∙ room)
+    two : (fits end_commits && fits end_checkpoints) ≡ true
+    two = and_fst (fits end_commits && fits end_checkpoints) (fits end_index) (sym fit_parts ∙ room)
 
-    pub copying-start : Copying log endCommits endCheckpoints endIndex cs ks es cs ks es left n
-    copying-start = record {
-      inCommits = storing-start commits copies cs copy-forms good.0 (and-fst (fits endCommits) (fits endCheckpoints) two);
-      inCheckpoints = storing-start checkpoints (each checkpointsOf copies) ks (each-forms checkpointsOf commitForm checkpointForm checkpoints-form copies copy-forms) good.1 (and-snd (fits endCommits) (fits endCheckpoints) two);
-      inIndex = storing-start index (each entriesOf copies) es (each-forms entriesOf commitForm entryForm entries-form copies copy-forms) good.2 (and-snd (fits endCommits && fits endCheckpoints) (fits endIndex) (sym fit_parts ∙ room));
-      is-left = todo-is.0;
-      count = todo-is.1;
-      others = todo-is.2;
+    pub copying_start : Copying log end_commits end_checkpoints end_index cs ks es cs ks es left n
+    copying_start = record {
+      in_commits = storing_start commits copies cs copy_forms good.0 (and_fst (fits end_commits) (fits end_checkpoints) two);
+      in_checkpoints = storing_start checkpoints (each checkpoints_of copies) ks (each_forms checkpoints_of commit_form checkpoint_form checkpoints_form copies copy_forms) good.1 (and_snd (fits end_commits) (fits end_checkpoints) two);
+      in_index = storing_start index (each entries_of copies) es (each_forms entries_of commit_form entry_form entries_form copies copy_forms) good.2 (and_snd (fits end_commits && fits end_checkpoints) (fits end_index) (sym fit_parts ∙ room));
+      is_left_lem = todo_is.0;
+      count = todo_is.1;
+      others = todo_is.2;
     }
 
   -- ---- the end: with none left, the tables are those of the rule
-  module _ (u v w : List ℕ) (rest : Left) (h : Copying log endCommits endCheckpoints endIndex cs ks es u v w rest 0) (bu : AreBytes u) (bv : AreBytes v) (bw : AreBytes w) where
-    none_left : renumbered log (pathCommits (commitsIn u) (leftSays rest)) ≡ []
-    none_left = nothing (pathCommits (commitsIn u) (leftSays rest)) h.count
+  module _ (u v w : List ℕ) (rest : Left) (h : Copying log end_commits end_checkpoints end_index cs ks es u v w rest 0) (bu : AreBytes u) (bv : AreBytes v) (bw : AreBytes w) where
+    none_left : renumbered log (path_commits (commits_in u) (left_says rest)) ≡ []
+    none_left = nothing (path_commits (commits_in u) (left_says rest)) h.count
       where
         nothing : (l : List Commit) → 0 ≡ length l → renumbered log l ≡ []
         nothing [] e = refl
         nothing (x ∷ xs) e = absurd (omega (arith, e))
 
-    pub end-commits : u ≡ laidOver commitBytes (write_all (logsIn cs ks es) copies).commits cs
-    end-commits =
-        storing-end commits cs endCommits u (subst (λ (l : List Commit). Storing commits l cs endCommits u) none_left h.inCommits) bu
-        ∙ ap (λ (t : Table Commit). laidOver commitBytes t cs) (sym (commits-all (logsIn cs ks es) copies))
+    pub end_commits_lem : u ≡ laid_over commit_bytes (write_all (logs_in cs ks es) copies).commits cs
+    end_commits_lem =
+        storing_end commits cs end_commits u (subst (λ (l : List Commit). Storing commits l cs end_commits u) none_left h.in_commits) bu
+        ∙ ap (λ (t : Table Commit). laid_over commit_bytes t cs) (sym (commits_all (logs_in cs ks es) copies))
 
-    pub end-checkpoints : v ≡ laidOver checkpointBytes (write_all (logsIn cs ks es) copies).checkpoints ks
+    pub end_checkpoints_lem : v ≡ laid_over checkpoint_bytes (write_all (logs_in cs ks es) copies).checkpoints ks
     unfolding each
-    end-checkpoints =
-        storing-end checkpoints ks endCheckpoints v (subst (λ (l : List Commit). Storing checkpoints (each checkpointsOf l) ks endCheckpoints v) none_left h.inCheckpoints) bv
-        ∙ ap (λ (t : Table Checkpoint). laidOver checkpointBytes t ks) (sym (checkpoints-all (logsIn cs ks es) copies))
+    end_checkpoints_lem =
+        storing_end checkpoints ks end_checkpoints v (subst (λ (l : List Commit). Storing checkpoints (each checkpoints_of l) ks end_checkpoints v) none_left h.in_checkpoints) bv
+        ∙ ap (λ (t : Table Checkpoint). laid_over checkpoint_bytes t ks) (sym (checkpoints_all (logs_in cs ks es) copies))
 
-    pub end-index : w ≡ laidOver entryBytes (write_all (logsIn cs ks es) copies).index es
+    pub end_index_lem : w ≡ laid_over entry_bytes (write_all (logs_in cs ks es) copies).index es
     unfolding each
-    end-index =
-        storing-end index es endIndex w (subst (λ (l : List Commit). Storing index (each entriesOf l) es endIndex w) none_left h.inIndex) bw
-        ∙ ap (λ (t : Table Entry). laidOver entryBytes t es) (sym (index-all (logsIn cs ks es) copies))
+    end_index_lem =
+        storing_end index es end_index w (subst (λ (l : List Commit). Storing index (each entries_of l) es end_index w) none_left h.in_index) bw
+        ∙ ap (λ (t : Table Entry). laid_over entry_bytes t es) (sym (index_all (logs_in cs ks es) copies))

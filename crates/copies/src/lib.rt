@@ -3,25 +3,25 @@ pub mod room;
 
 ghost use Rattle.std.specs.Prelude.{◌≡◌, ◌<◌, true, length};
 ghost use Rattle.rules.specs.Lists.{all};
-ghost use Rattle.rules.specs.Write.{write_all, logsFit};
-ghost use Rattle.rules.specs.Walk.{pathCommits};
+ghost use Rattle.rules.specs.Write.{write_all, logs_fit};
+ghost use Rattle.rules.specs.Walk.{path_commits};
 ghost use Rattle.rules.specs.Copies.{renumbered};
-ghost use Rattle.layout.specs.Records.{commitBytes, checkpointBytes, entryBytes};
-ghost use Rattle.layout.specs.Tables.{commitsIn, commitsOk, checkpointsOk, indexOk, laidOver};
+ghost use Rattle.layout.specs.Records.{commit_bytes, checkpoint_bytes, entry_bytes};
+ghost use Rattle.layout.specs.Tables.{commits_in, commits_ok, checkpoints_ok, index_ok, laid_over};
 ghost use Rattle.table.specs.Table.{count_of};
-ghost use Rattle.commits.specs.Places.{commitAt};
-ghost use Rattle.writecalls.specs.Written.{IsCommit, commitIn, logsIn};
-ghost use Rattle.paths.specs.Left.{otherLog, isLeft, leftSays};
+ghost use Rattle.commits.specs.Places.{commit_at};
+ghost use Rattle.writecalls.specs.Written.{IsCommit, commit_in, logs_in};
+ghost use Rattle.paths.specs.Left.{other_log, is_left, left_says};
 ghost use Rattle.copies.specs.Copied.{renumber};
 
-use core::id::LogId;
+use basics::id::LogId;
 use paths::{Left, next_commit};
 use writecalls::write_stored;
 
 // The bytes of a stored commit's copy under another log and LSN.
 fn copied_row(commits: &[u8], row: usize, log: LogId, lsn: u64) -> [u8; 722]
-    requires { (commitsOk commits.now ≡ true) × (row < count_of commits.now) × (0 < lsn) }
-    ensures { IsCommit result × (commitIn result ≡ renumber log lsn (commitAt commits.now row)) }
+    requires { (commits_ok commits.now ≡ true) × (row < count_of commits.now) × (0 < lsn) }
+    ensures { IsCommit result × (commit_in result ≡ renumber log lsn (commit_at commits.now row)) }
 {
     let mut c = [0u8; 722];
     octets::load_all(commits, commits::row(commits, row), &mut c);
@@ -39,12 +39,12 @@ pub fn store_copies(
     n: usize,
     log: LogId,
 )
-    requires commits_value { (commitsOk commits.old ≡ true) × (checkpointsOk checkpoints.old ≡ true) × (indexOk index.old ≡ true) }
-    requires is_left { isLeft left × (n ≡ length (pathCommits (commitsIn commits.old) (leftSays left))) × (all (otherLog log) (leftSays left) ≡ true) }
-    requires left_value { logsFit (write_all (logsIn commits.old checkpoints.old index.old) (renumbered log (pathCommits (commitsIn commits.old) (leftSays left)))) ≡ true }
-    ensures commits_after { commits.new ≡ laidOver commitBytes (write_all (logsIn commits.old checkpoints.old index.old) (renumbered log (pathCommits (commitsIn commits.old) (leftSays left)))).commits commits.old }
-    ensures checkpoints_after { checkpoints.new ≡ laidOver checkpointBytes (write_all (logsIn commits.old checkpoints.old index.old) (renumbered log (pathCommits (commitsIn commits.old) (leftSays left)))).checkpoints checkpoints.old }
-    ensures index_after { index.new ≡ laidOver entryBytes (write_all (logsIn commits.old checkpoints.old index.old) (renumbered log (pathCommits (commitsIn commits.old) (leftSays left)))).index index.old }
+    requires commits_value { (commits_ok commits.old ≡ true) × (checkpoints_ok checkpoints.old ≡ true) × (index_ok index.old ≡ true) }
+    requires is_left { is_left left × (n ≡ length (path_commits (commits_in commits.old) (left_says left))) × (all (other_log log) (left_says left) ≡ true) }
+    requires left_value { logs_fit (write_all (logs_in commits.old checkpoints.old index.old) (renumbered log (path_commits (commits_in commits.old) (left_says left)))) ≡ true }
+    ensures commits_after { commits.new ≡ laid_over commit_bytes (write_all (logs_in commits.old checkpoints.old index.old) (renumbered log (path_commits (commits_in commits.old) (left_says left)))).commits commits.old }
+    ensures checkpoints_after { checkpoints.new ≡ laid_over checkpoint_bytes (write_all (logs_in commits.old checkpoints.old index.old) (renumbered log (path_commits (commits_in commits.old) (left_says left)))).checkpoints checkpoints.old }
+    ensures index_after { index.new ≡ laid_over entry_bytes (write_all (logs_in commits.old checkpoints.old index.old) (renumbered log (path_commits (commits_in commits.old) (left_says left)))).index index.old }
 {
     let mut rest = left;
     let mut k = n;

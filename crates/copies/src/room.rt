@@ -1,26 +1,26 @@
 // What copies of a path's commits add to the tables, counted before any is written: as many commits, an index entry for each page of each, and each checkpoint LSN once, where it is named last.
 ghost use Rattle.std.specs.Prelude.{◌≡◌, ◌+◌, ◌*◌, ◌<◌, ◌≤◌, true, ◌++◌, map, length, nat_eq};
 ghost use Rattle.std.proofs.Math.Option.{none};
-ghost use Rattle.std.specs.Orders.{logLsn, logPageLsn};
+ghost use Rattle.basics.specs.Orders.{log_lsn, log_page_lsn};
 ghost use Rattle.rules.specs.Lists.{any};
-ghost use Rattle.rules.specs.Records.{checkpointKey, entryKey};
+ghost use Rattle.rules.specs.Records.{checkpoint_key, entry_key};
 ghost use Rattle.rules.specs.Tables.{latest};
-ghost use Rattle.rules.specs.Write.{checkpointsOf, entriesOf, write_all, logsFit};
+ghost use Rattle.rules.specs.Write.{checkpoints_of, entries_of, write_all, logs_fit};
 ghost use Rattle.rules.specs.Room.{lacks, news, each};
-ghost use Rattle.rules.specs.Walk.{pathCommits};
+ghost use Rattle.rules.specs.Walk.{path_commits};
 ghost use Rattle.rules.specs.Copies.{renumbered};
-ghost use Rattle.layout.specs.Tables.{commitsIn, commitsOk, checkpointsIn, checkpointsOk, indexIn, indexOk};
+ghost use Rattle.layout.specs.Tables.{commits_in, commits_ok, checkpoints_in, checkpoints_ok, index_in, index_ok};
 ghost use Rattle.table.specs.Table.{count_of};
-ghost use Rattle.commits.specs.Places.{commitAt};
-ghost use Rattle.commitbytes.specs.Laid.{lsnsAt};
+ghost use Rattle.commits.specs.Places.{commit_at};
+ghost use Rattle.commitbytes.specs.Laid.{lsns_at};
 ghost use Rattle.indexing.specs.Rows.{checkpoint};
-ghost use Rattle.writecalls.specs.Written.{IsCommit, commitIn, logsIn};
-ghost use Rattle.paths.specs.Left.{isLeft, leftSays};
+ghost use Rattle.writecalls.specs.Written.{IsCommit, commit_in, logs_in};
+ghost use Rattle.paths.specs.Left.{is_left, left_says};
 ghost use Rattle.copies.specs.Copied.{lists};
 
 use crate::copied_row;
 use commitbytes::fields;
-use core::id::LogId;
+use basics::id::LogId;
 use layout::{CHECKPOINT, COMMIT, ENTRY};
 use octets::load64;
 use paths::{Left, next_commit};
@@ -31,8 +31,8 @@ use writecalls::commit_pages;
 
 // How many index entries of a commit the index lacks.
 fn new_entries_of(index: &[u8], c: &[u8]) -> usize
-    requires { (indexOk index.now ≡ true) × IsCommit c.now }
-    ensures { (result ≡ news entryKey logPageLsn (entriesOf (commitIn c.now)) (indexIn index.now).rows) × (result ≤ 2048) }
+    requires { (index_ok index.now ≡ true) × IsCommit c.now }
+    ensures { (result ≡ news entry_key log_page_lsn (entries_of (commit_in c.now)) (index_in index.now).rows) × (result ≤ 2048) }
 {
     let log = fields::commit_log(c, 0);
     let lsn = fields::commit_lsn(c, 0);
@@ -42,9 +42,9 @@ fn new_entries_of(index: &[u8], c: &[u8]) -> usize
 
 // How many index entries of the copies of the n commits left the index lacks.
 fn new_entries(commits: &[u8], index: &[u8], left: Left, n: usize, log: LogId) -> usize
-    requires commits_value { (commitsOk commits.now ≡ true) × (indexOk index.now ≡ true) }
-    requires is_left { isLeft left × (n ≡ length (pathCommits (commitsIn commits.now) (leftSays left))) }
-    ensures { result ≡ news entryKey logPageLsn (each entriesOf (renumbered log (pathCommits (commitsIn commits.now) (leftSays left)))) (indexIn index.now).rows }
+    requires commits_value { (commits_ok commits.now ≡ true) × (index_ok index.now ≡ true) }
+    requires is_left { is_left left × (n ≡ length (path_commits (commits_in commits.now) (left_says left))) }
+    ensures { result ≡ news entry_key log_page_lsn (each entries_of (renumbered log (path_commits (commits_in commits.now) (left_says left)))) (index_in index.now).rows }
 {
     let mut rest = left;
     let mut k = n;
@@ -64,7 +64,7 @@ fn new_entries(commits: &[u8], index: &[u8], left: Left, n: usize, log: LogId) -
 // Whether an LSN is among the n at a place.
 fn listed_at(s: &[u8], at: usize, n: usize, lsn: u64) -> bool
     requires { at + n * 8 ≤ length s.now }
-    ensures { result ≡ any (nat_eq lsn) (lsnsAt n at s.now) }
+    ensures { result ≡ any (nat_eq lsn) (lsns_at n at s.now) }
 {
     let mut from = at;
     let mut m = n;
@@ -80,8 +80,8 @@ fn listed_at(s: &[u8], at: usize, n: usize, lsn: u64) -> bool
 
 // Whether a stored commit lists an LSN.
 fn lists_lsn(commits: &[u8], row: usize, lsn: u64) -> bool
-    requires { (commitsOk commits.now ≡ true) × (row < count_of commits.now) }
-    ensures { result ≡ lists lsn (commitAt commits.now row) }
+    requires { (commits_ok commits.now ≡ true) × (row < count_of commits.now) }
+    ensures { result ≡ lists lsn (commit_at commits.now row) }
 {
     let at = commits::row(commits, row) + 657;
     let n = count_read(commits, at, 8);
@@ -90,9 +90,9 @@ fn lists_lsn(commits: &[u8], row: usize, lsn: u64) -> bool
 
 // Whether one of the n commits left lists an LSN.
 fn listed_later(commits: &[u8], left: Left, n: usize, lsn: u64) -> bool
-    requires commits_value { (commitsOk commits.now ≡ true) × isLeft left }
-    requires n_value { n ≡ length (pathCommits (commitsIn commits.now) (leftSays left)) }
-    ensures { result ≡ any (lists lsn) (pathCommits (commitsIn commits.now) (leftSays left)) }
+    requires commits_value { (commits_ok commits.now ≡ true) × is_left left }
+    requires n_value { n ≡ length (path_commits (commits_in commits.now) (left_says left)) }
+    ensures { result ≡ any (lists lsn) (path_commits (commits_in commits.now) (left_says left)) }
 {
     let mut rest = left;
     let mut k = n;
@@ -118,9 +118,9 @@ fn new_checkpoint(
     log: LogId,
     lsn: u64,
 ) -> usize
-    requires commits_value { (commitsOk commits.now ≡ true) × (checkpointsOk checkpoints.now ≡ true) × (at + m * 8 ≤ length commits.now) }
-    requires is_left { isLeft left × (k ≡ length (pathCommits (commitsIn commits.now) (leftSays left))) }
-    ensures { result ≡ lacks checkpointKey logLsn (log, lsn) (map (checkpoint log) (lsnsAt m at commits.now) ++ (each checkpointsOf (renumbered log (pathCommits (commitsIn commits.now) (leftSays left))) ++ (checkpointsIn checkpoints.now).rows)) }
+    requires commits_value { (commits_ok commits.now ≡ true) × (checkpoints_ok checkpoints.now ≡ true) × (at + m * 8 ≤ length commits.now) }
+    requires is_left { is_left left × (k ≡ length (path_commits (commits_in commits.now) (left_says left))) }
+    ensures { result ≡ lacks checkpoint_key log_lsn (log, lsn) (map (checkpoint log) (lsns_at m at commits.now) ++ (each checkpoints_of (renumbered log (path_commits (commits_in commits.now) (left_says left))) ++ (checkpoints_in checkpoints.now).rows)) }
 {
     if listed_at(commits, at, m, lsn) {
         return 0;
@@ -141,9 +141,9 @@ fn new_checkpoints_of(
     k: usize,
     log: LogId,
 ) -> usize
-    requires commits_value { (commitsOk commits.now ≡ true) × (checkpointsOk checkpoints.now ≡ true) × (row < count_of commits.now) }
-    requires is_left { isLeft left × (k ≡ length (pathCommits (commitsIn commits.now) (leftSays left))) }
-    ensures { (result ≡ news checkpointKey logLsn (map (checkpoint log) (commitAt commits.now row).checkpoints) (each checkpointsOf (renumbered log (pathCommits (commitsIn commits.now) (leftSays left))) ++ (checkpointsIn checkpoints.now).rows)) × (result ≤ 8) }
+    requires commits_value { (commits_ok commits.now ≡ true) × (checkpoints_ok checkpoints.now ≡ true) × (row < count_of commits.now) }
+    requires is_left { is_left left × (k ≡ length (path_commits (commits_in commits.now) (left_says left))) }
+    ensures { (result ≡ news checkpoint_key log_lsn (map (checkpoint log) (commit_at commits.now row).checkpoints) (each checkpoints_of (renumbered log (path_commits (commits_in commits.now) (left_says left))) ++ (checkpoints_in checkpoints.now).rows)) × (result ≤ 8) }
 {
     let at = commits::row(commits, row) + 657;
     let mut m = count_read(commits, at, 8);
@@ -160,9 +160,9 @@ fn new_checkpoints_of(
 
 // How many checkpoints the copies of the n commits left add.
 fn new_checkpoints(commits: &[u8], checkpoints: &[u8], left: Left, n: usize, log: LogId) -> usize
-    requires commits_value { (commitsOk commits.now ≡ true) × (checkpointsOk checkpoints.now ≡ true) }
-    requires is_left { isLeft left × (n ≡ length (pathCommits (commitsIn commits.now) (leftSays left))) }
-    ensures { result ≡ news checkpointKey logLsn (each checkpointsOf (renumbered log (pathCommits (commitsIn commits.now) (leftSays left)))) (checkpointsIn checkpoints.now).rows }
+    requires commits_value { (commits_ok commits.now ≡ true) × (checkpoints_ok checkpoints.now ≡ true) }
+    requires is_left { is_left left × (n ≡ length (path_commits (commits_in commits.now) (left_says left))) }
+    ensures { result ≡ news checkpoint_key log_lsn (each checkpoints_of (renumbered log (path_commits (commits_in commits.now) (left_says left)))) (checkpoints_in checkpoints.now).rows }
 {
     let mut rest = left;
     let mut k = n;
@@ -187,9 +187,9 @@ pub fn room_for_copies(
     n: usize,
     log: LogId,
 ) -> bool
-    requires commits_value { (commitsOk commits.now ≡ true) × (checkpointsOk checkpoints.now ≡ true) × (indexOk index.now ≡ true) }
-    requires is_left { isLeft left × (n ≡ length (pathCommits (commitsIn commits.now) (leftSays left))) × (latest (commitsIn commits.now) log ≡ none) }
-    ensures { result ≡ logsFit (write_all (logsIn commits.now checkpoints.now index.now) (renumbered log (pathCommits (commitsIn commits.now) (leftSays left)))) }
+    requires commits_value { (commits_ok commits.now ≡ true) × (checkpoints_ok checkpoints.now ≡ true) × (index_ok index.now ≡ true) }
+    requires is_left { is_left left × (n ≡ length (path_commits (commits_in commits.now) (left_says left))) × (latest (commits_in commits.now) log ≡ none) }
+    ensures { result ≡ logs_fit (write_all (logs_in commits.now checkpoints.now index.now) (renumbered log (path_commits (commits_in commits.now) (left_says left)))) }
 {
     if !table::room_for(commits, COMMIT, n) {
         return false;

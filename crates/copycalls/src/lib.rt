@@ -1,25 +1,25 @@
 // Volumes made from commits that are stored: from a snapshot, and from a commit of a log. A plan decides and stores nothing; then one function stores, all or nothing over four tables. Each
 // answers on every input, 20 first.
 ghost use Rattle.std.specs.Prelude.{◌≡◌, true, [], ◌∷◌, length};
-ghost use Rattle.std.specs.Answers.{code};
+ghost use Rattle.basics.specs.Answers.{code};
 ghost use Rattle.rules.specs.Lists.{all, those, is_none};
-ghost use Rattle.rules.specs.Forms.{volumeForm};
+ghost use Rattle.rules.specs.Forms.{volume_form};
 ghost use Rattle.rules.specs.Tables.{latest};
-ghost use Rattle.rules.specs.Copies.{copyFree, newVolume, copied};
-ghost use Rattle.volume.specs.Volumes.{volumeSays};
-ghost use Rattle.layout.specs.Tables.{volumesIn, volumesOk, commitsIn, commitsOk, checkpointsOk, indexOk};
-ghost use Rattle.writecalls.specs.Written.{logsIn};
-ghost use Rattle.paths.specs.Left.{otherLog, isLeft, leftSays};
-ghost use Rattle.copycalls.specs.Making.{ids, up_to, copyOk, argumentsIn, made, snapshotOn, logrefOn, Leaves};
+ghost use Rattle.rules.specs.Copies.{copy_free, new_volume, copied};
+ghost use Rattle.volume.specs.Volumes.{volume_says};
+ghost use Rattle.layout.specs.Tables.{volumes_in, volumes_ok, commits_in, commits_ok, checkpoints_ok, index_ok};
+ghost use Rattle.writecalls.specs.Written.{logs_in};
+ghost use Rattle.paths.specs.Left.{other_log, is_left, left_says};
+ghost use Rattle.copycalls.specs.Making.{ids, up_to, copy_ok, arguments_in, made, snapshot_on, logref_on, Leaves};
 
 use arguments::Reply;
 use arguments::snapshots::{snapshot_arg, snapshot_ok};
 use commits::{Place, find_commit};
 use copies::room::room_for_copies;
 use copies::store_copies;
-use core::id::{LogId, VolumeId};
-use core::lsn::Lsn;
-use core::{commit_hash, id};
+use basics::id::{LogId, VolumeId};
+use basics::lsn::Lsn;
+use basics::{commit_hash, id};
 use layout::VOLUME;
 use paths::{Left, commits_left, without};
 use volume::snapshot::LogRange;
@@ -32,7 +32,7 @@ use writecalls::logs_formed;
 
 // Whether the four tables are formed; where one is not, number 20.
 fn tables_formed(volumes: &[u8], commits: &[u8], checkpoints: &[u8], index: &[u8]) -> bool
-    ensures { result ≡ copyOk volumes.now commits.now checkpoints.now index.now }
+    ensures { result ≡ copy_ok volumes.now commits.now checkpoints.now index.now }
 {
     if !volumes_formed(volumes) {
         return false;
@@ -42,7 +42,7 @@ fn tables_formed(volumes: &[u8], commits: &[u8], checkpoints: &[u8], index: &[u8
 
 // 1, 2 or 3 of the snapshot and of the place for the answer, or 0.
 fn arguments_number(snapshot: &[u8], place: usize) -> u32
-    ensures { result ≡ code (argumentsIn snapshot.now place) }
+    ensures { result ≡ code (arguments_in snapshot.now place) }
 {
     let s = snapshot_arg(snapshot);
     if !s.has_lsns() {
@@ -64,8 +64,8 @@ fn arguments_number(snapshot: &[u8], place: usize) -> u32
 
 // Whether a log has no commit.
 fn log_free(commits: &[u8], log: LogId) -> bool
-    requires { commitsOk commits.now ≡ true }
-    ensures { result ≡ is_none (latest (commitsIn commits.now) log) }
+    requires { commits_ok commits.now ≡ true }
+    ensures { result ≡ is_none (latest (commits_in commits.now) log) }
 {
     match commits::latest(commits, log) {
         Place::At(_) => false,
@@ -75,8 +75,8 @@ fn log_free(commits: &[u8], log: LogId) -> bool
 
 // Whether the three identifiers are free, and the logs two.
 fn copy_free(volumes: &[u8], commits: &[u8], vid: VolumeId, local: LogId, remote: LogId) -> bool
-    requires { (volumesOk volumes.now ≡ true) × (commitsOk commits.now ≡ true) }
-    ensures { result ≡ copyFree (volumesIn volumes.now) (commitsIn commits.now) (ids vid local remote) }
+    requires { (volumes_ok volumes.now ≡ true) × (commits_ok commits.now ≡ true) }
+    ensures { result ≡ copy_free (volumes_in volumes.now) (commits_in commits.now) (ids vid local remote) }
 {
     if !vid_free(volumes, vid) {
         return false;
@@ -94,7 +94,7 @@ fn copy_free(volumes: &[u8], commits: &[u8], vid: VolumeId, local: LogId, remote
 
 // The new volume, without sync point.
 fn new_volume(vid: VolumeId, local: LogId, remote: LogId) -> Volume
-    ensures { (volumeSays result ≡ newVolume (ids vid local remote)) × (volumeForm (volumeSays result) ≡ true) }
+    ensures { (volume_says result ≡ new_volume (ids vid local remote)) × (volume_form (volume_says result) ≡ true) }
 {
     Volume::new(
         vid,
@@ -119,9 +119,9 @@ fn copy_plan(
     local: LogId,
     remote: LogId,
 ) -> u32
-    requires volumes_value { (volumesOk volumes.now ≡ true) × (commitsOk commits.now ≡ true) × (checkpointsOk checkpoints.now ≡ true) × (indexOk index.now ≡ true) }
-    requires is_left { isLeft left }
-    ensures { result ≡ code (copied (volumesIn volumes.now) (logsIn commits.now checkpoints.now index.now) (leftSays left) (ids vid local remote)) }
+    requires volumes_value { (volumes_ok volumes.now ≡ true) × (commits_ok commits.now ≡ true) × (checkpoints_ok checkpoints.now ≡ true) × (index_ok index.now ≡ true) }
+    requires is_left { is_left left }
+    ensures { result ≡ code (copied (volumes_in volumes.now) (logs_in commits.now checkpoints.now index.now) (left_says left) (ids vid local remote)) }
 {
     if !copy_free(volumes, commits, vid, local, remote) {
         return 5;
@@ -149,9 +149,9 @@ fn copy_path(
     remote: LogId,
     out: &mut [u8],
 ) -> Reply
-    requires volumes_value { (volumesOk volumes.old ≡ true) × (commitsOk commits.old ≡ true) × (checkpointsOk checkpoints.old ≡ true) × (indexOk index.old ≡ true) }
-    requires is_left { isLeft left × (all (otherLog local) (leftSays left) ≡ true) × (length out.old ≡ 117) }
-    ensures { Leaves volumes.old commits.old checkpoints.old index.old out.old (made (copied (volumesIn volumes.old) (logsIn commits.old checkpoints.old index.old) (leftSays left) (ids vid local remote))) result volumes.new commits.new checkpoints.new index.new out.new }
+    requires volumes_value { (volumes_ok volumes.old ≡ true) × (commits_ok commits.old ≡ true) × (checkpoints_ok checkpoints.old ≡ true) × (index_ok index.old ≡ true) }
+    requires is_left { is_left left × (all (other_log local) (left_says left) ≡ true) × (length out.old ≡ 117) }
+    ensures { Leaves volumes.old commits.old checkpoints.old index.old out.old (made (copied (volumes_in volumes.old) (logs_in commits.old checkpoints.old index.old) (left_says left) (ids vid local remote))) result volumes.new commits.new checkpoints.new index.new out.new }
 {
     let number = copy_plan(
         volumes,
@@ -181,7 +181,7 @@ fn copy_path(
 
 // A log from LSN 1 to one, as a path without the ranges of the new local log.
 fn log_path(log: LogId, lsn: u64, local: LogId) -> Left
-    ensures { isLeft result × (leftSays result ≡ those (otherLog local) (up_to log lsn ∷ [])) }
+    ensures { is_left result × (left_says result ≡ those (other_log local) (up_to log lsn ∷ [])) }
 {
     let range = LogRange {
         log: log,
@@ -204,7 +204,7 @@ pub fn from_snapshot(
     remote: LogId,
     out: &mut [u8],
 ) -> Reply
-    ensures { Leaves volumes.old commits.old checkpoints.old index.old out.old (snapshotOn volumes.old commits.old checkpoints.old index.old snapshot.now (ids vid local remote) (length out.old)) result volumes.new commits.new checkpoints.new index.new out.new }
+    ensures { Leaves volumes.old commits.old checkpoints.old index.old out.old (snapshot_on volumes.old commits.old checkpoints.old index.old snapshot.now (ids vid local remote) (length out.old)) result volumes.new commits.new checkpoints.new index.new out.new }
 {
     if !tables_formed(volumes, commits, checkpoints, index) {
         return Reply { code: 20, found: 0 };
@@ -246,7 +246,7 @@ pub fn from_logref(
     remote: LogId,
     out: &mut [u8],
 ) -> Reply
-    ensures { Leaves volumes.old commits.old checkpoints.old index.old out.old (logrefOn volumes.old commits.old checkpoints.old index.old log lsn (ids vid local remote) (length out.old)) result volumes.new commits.new checkpoints.new index.new out.new }
+    ensures { Leaves volumes.old commits.old checkpoints.old index.old out.old (logref_on volumes.old commits.old checkpoints.old index.old log lsn (ids vid local remote) (length out.old)) result volumes.new commits.new checkpoints.new index.new out.new }
 {
     if !tables_formed(volumes, commits, checkpoints, index) {
         return Reply { code: 20, found: 0 };

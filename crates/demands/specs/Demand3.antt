@@ -3,38 +3,38 @@ use Rattle.std.specs.Prelude.{◌≡◌, ℕ, true, ◌⊎◌, ◌↔◌, List, 
 use mathlib.Core.List.{Memᴰ}
 use Rattle.octets.specs.Bytes.{put}
 use Rattle.octets.specs.Flat.{flat}
-use Rattle.std.specs.Int.{counts}
-use Rattle.rules.specs.Records.{Commit, Range, commitKey}
+use Rattle.basics.specs.Numbers.{counts}
+use Rattle.rules.specs.Records.{Commit, Range, commit_key}
 use Rattle.rules.specs.Walk.{Item}
 use Rattle.rules.specs.Tables.{Table}
 use Rattle.rules.specs.Demand.{valid, Exact, Holder, Winner, givers}
-use Rattle.layout.specs.Records.{commitBytes}
-use Rattle.layout.specs.Tables.{commitsIn, commitsOk, indexIn, indexOk}
+use Rattle.layout.specs.Records.{commit_bytes}
+use Rattle.layout.specs.Tables.{commits_in, commits_ok, index_in, index_ok}
 use Rattle.arguments.specs.declared.Reply.{Reply}
-use Rattle.arguments.specs.Replies.{given, none-under}
-use Rattle.arguments.specs.Snapshots.{snapshotIn, snapshotFormed}
-use Rattle.walkcalls.specs.Items.{itemBytes}
+use Rattle.arguments.specs.Replies.{given, none_under}
+use Rattle.arguments.specs.Snapshots.{snapshot_in, snapshot_formed}
+use Rattle.walkcalls.specs.Items.{item_bytes}
 
 -- the lent bytes of commits, index, snapshot and place for the answer, and the page
 pub record Supposed (commits index snapshot out : List ℕ) (page : ℕ) : Type 0 where
   -- both tables are formed, and the index lists exactly the pages of the stored commits
-  pub commits-formed : commitsOk commits ≡ true
-  pub index-formed : indexOk index ≡ true
-  pub exact : Exact (commitsIn commits) (indexIn index)
+  pub commits_formed_lem : commits_ok commits ≡ true
+  pub index_formed_lem : index_ok index ≡ true
+  pub exact : Exact (commits_in commits) (index_in index)
   -- the snapshot is valid: one that no call refuses by 1, 2 or 3
-  pub snapshot-valid : valid (snapshotIn snapshot) ≡ true
-  pub snapshot-formed : snapshotFormed snapshot ≡ true
+  pub snapshot_valid : valid (snapshot_in snapshot) ≡ true
+  pub snapshot_formed_lem : snapshot_formed snapshot ≡ true
   -- the page is not 0, and the place has a commit's size
-  pub page-counts : counts page ≡ true
-  pub place : length out ≡ commitBytes.size
+  pub page_counts : counts page ≡ true
+  pub place : length out ≡ commit_bytes.size
 
 -- the call found nothing: number 0, and the lent place as it was
 abbrev pub FoundNothing : List ℕ → Reply × List ℕ → Type 0
-FoundNothing out left = left ≡ (none-under 0, out)
+FoundNothing out left = left ≡ (none_under 0, out)
 
 -- the call found c: number 0, and c's bytes in the lent place
 abbrev pub Found : Commit → Reply × List ℕ → Type 0
-Found c left = left ≡ (given, commitBytes.spell c)
+Found c left = left ≡ (given, commit_bytes.spell c)
 
 -- search of a page in the ranges of a path: `out` is the lent place before, `left` the reply and the lent place after
 pub record Finds (cs : Table Commit) (path : List Range) (page : ℕ) (out : List ℕ) (left : Reply × List ℕ) : Type 0 where
@@ -47,8 +47,8 @@ pub record Finds (cs : Table Commit) (path : List Range) (page : ℕ) (out : Lis
 pub record Gives (cs : Table Commit) (path : List Range) (page : ℕ) (list : List ℕ) (walked : Reply × (List ℕ × ℕ)) (out : List ℕ) (left : Reply × List ℕ) : Type 0 where
   -- the list holds items from its start on, and their number is answered
   pub items : List Item
-  pub listed : walked ≡ (given, (put 0 (flat itemBytes.spell items) list, length items))
+  pub listed : walked ≡ (given, (put 0 (flat item_bytes.spell items) list, length items))
   -- where search finds nothing, no item has the page
   pub to_none : FoundNothing out left → givers page items ≡ []
   -- else exactly one has it, that of the commit that search names
-  pub to_one : (c : Commit) → Winner cs page path c → Found c left → givers page items ≡ commitKey c ∷ []
+  pub to_one : (c : Commit) → Winner cs page path c → Found c left → givers page items ≡ commit_key c ∷ []

@@ -3,9 +3,9 @@ pub mod saving;
 pub mod syncing;
 
 ghost use Rattle.std.specs.Prelude.{◌≡◌, ◌≤◌, ◌≢◌};
-ghost use Rattle.arguments.specs.Replies.{none-under};
-ghost use Rattle.arguments.specs.Snapshots.{snapshotIn};
-ghost use Rattle.layout.specs.Tables.{commitsIn};
+ghost use Rattle.arguments.specs.Replies.{none_under};
+ghost use Rattle.arguments.specs.Snapshots.{snapshot_in};
+ghost use Rattle.layout.specs.Tables.{commits_in};
 ghost use Rattle.demands.specs.Demand3.{Supposed, Finds, Gives};
 
 use arguments::Reply;
@@ -31,8 +31,8 @@ pub fn search_and_walk(
     items: &mut u32,
 ) -> Answers
     requires { Supposed commits.now index.now snapshot.now out.old page }
-    ensures finds { Finds (commitsIn commits.now) (snapshotIn snapshot.now).path page out.old (result.found, out.new) }
-    ensures gives { page ≤ (snapshotIn snapshot.now).count → (result.walked ≢ none-under 19) → Gives (commitsIn commits.now) (snapshotIn snapshot.now).path page list.old (result.walked, (list.new, items.new)) out.old (result.found, out.new) }
+    ensures finds { Finds (commits_in commits.now) (snapshot_in snapshot.now).path page out.old (result.found, out.new) }
+    ensures gives { page ≤ (snapshot_in snapshot.now).count → (result.walked ≢ none_under 19) → Gives (commits_in commits.now) (snapshot_in snapshot.now).path page list.old (result.walked, (list.new, items.new)) out.old (result.found, out.new) }
 {
     let found = sigatuda_search(commits, index, snapshot, page, out);
     let walked = sigatuda_walk(commits, snapshot, list, items);

@@ -1,11 +1,11 @@
 // T7 over save, snapshot and search; T5 and T2 over save.
 ghost use Rattle.rules.specs.Calls.{saving};
-ghost use Rattle.layout.specs.Values.{setBytes};
-ghost use Rattle.layout.specs.Tables.{presenceOk};
-ghost use Rattle.arguments.specs.Snapshots.{snapshotIn};
+ghost use Rattle.layout.specs.Values.{set_bytes};
+ghost use Rattle.layout.specs.Tables.{presence_ok};
+ghost use Rattle.arguments.specs.Snapshots.{snapshot_in};
 ghost use Rattle.keeping.specs.Frame.{Keeps};
 ghost use Rattle.keeping.specs.Stays.{StaysFormed, LogsStayFormed, StaysExact};
-ghost use Rattle.demands.specs.Frame.{tablesIn};
+ghost use Rattle.demands.specs.Frame.{tables_in};
 ghost use Rattle.demands.specs.Saved.{SavedIsFound};
 
 use arguments::Reply;
@@ -75,9 +75,9 @@ pub fn save(
     pages: &[u8],
     out: &mut [u8],
 ) -> Reply
-    ensures keeps { Keeps (tablesIn volumes.now commits.old checkpoints.old index.old presence.old) (saving vid.now (snapshotIn snapshot.now) count sid (setBytes.read pages.now)) (tablesIn volumes.now commits.new checkpoints.new index.new presence.new) }
+    ensures keeps { Keeps (tables_in volumes.now commits.old checkpoints.old index.old presence.old) (saving vid.now (snapshot_in snapshot.now) count sid (set_bytes.read pages.now)) (tables_in volumes.now commits.new checkpoints.new index.new presence.new) }
     ensures logs_stay_formed { LogsStayFormed commits.old checkpoints.old index.old commits.new checkpoints.new index.new }
-    ensures stays_formed { StaysFormed presenceOk presence.old presence.new }
+    ensures stays_formed { StaysFormed presence_ok presence.old presence.new }
     ensures stays_exact { StaysExact commits.old index.old commits.new index.new }
 {
     sigatuda_save(

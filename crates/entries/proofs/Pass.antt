@@ -2,18 +2,18 @@
 use Rattle.std.proofs.Common.{◌≡◌, ℕ, zero, suc, ◌+◌, ◌-◌, ◌*◌, ◌<◌, ◌≤◌, Bool, true, false, not, ◌&&◌, leb, List, ◌∷◌, length, sym, refl, ap, ◌∙◌, ap₂, arith, le-leb, leb-true}
 use borrow.Author.Tests.{lt-leb, not-true, not-false}
 use Rattle.octets.specs.Bytes.{part, AreBytes}
-use Rattle.octets.specs.Order.{isLess}
+use Rattle.octets.specs.Order.{is_less}
 use Rattle.octets.proofs.Places as P
 use Rattle.table.specs.Records.{cmp, rises}
-use Rattle.table.specs.Table.{runs, recs, count_of, cap_of, wellOrdered}
-use Rattle.table.proofs.Rows.{recs-are, cap-room}
+use Rattle.table.specs.Table.{runs, recs, count_of, cap_of, well_ordered}
+use Rattle.table.proofs.Rows.{recs_are, cap_room}
 use Rattle.rules.specs.Lists.{all}
-use Rattle.rules.proofs.TableLaws.{and-fst, and-snd}
-use Rattle.layout.specs.Records.{logLsnBytes, logPageLsnBytes, sidPageBytes, checkpointBytes, entryBytes, presentBytes}
-use Rattle.layout.specs.Tables.{formedIn}
+use Rattle.rules.proofs.TableLaws.{and_fst, and_snd}
+use Rattle.layout.specs.Records.{log_lsn_bytes, log_page_lsn_bytes, sid_page_bytes, checkpoint_bytes, entry_bytes, present_bytes}
+use Rattle.layout.specs.Tables.{formed_in}
 use Rattle.entries.specs.declared.Row.{Row}
-use Rattle.entries.specs.Keys.{Keyed, Checkpoints, Index, Presence, size_of, rowForm, tableOk, rowsOk, row_of, rowOrder}
-use Rattle.entries.proofs.RowOrders.{row-order}
+use Rattle.entries.specs.Keys.{Keyed, Checkpoints, Index, Presence, size_of, row_form, table_ok, rows_ok, row_of, row_order}
+use Rattle.entries.proofs.RowOrders.{row_order_lem}
 
 -- ---- records and a test of each
 
@@ -36,10 +36,10 @@ module _ (s : ℕ) (f : List ℕ → Bool) (t : List ℕ) where
       turn false false r = refl
 
   -- the next record
-  later-next : (m at : ℕ) → later (suc m) at ≡ (f (part (at + s) s t) && (isLess (cmp s (part at s t) (part (at + s) s t)) && later m (at + s)))
+  later_next : (m at : ℕ) → later (suc m) at ≡ (f (part (at + s) s t) && (is_less (cmp s (part at s t) (part (at + s) s t)) && later m (at + s)))
   unfolding later runs all
-  later-next m at =
-      turn (isLess (cmp s (part at s t) (part (at + s) s t))) (rises s (part (at + s) s t ∷ runs m s (at + s + s) t)) (f (part (at + s) s t)) (all f (runs m s (at + s + s) t))
+  later_next m at =
+      turn (is_less (cmp s (part at s t) (part (at + s) s t))) (rises s (part (at + s) s t ∷ runs m s (at + s + s) t)) (f (part (at + s) s t)) (all f (runs m s (at + s + s) t))
     where
       turn : (p q r u : Bool) → ((p && q) && (r && u)) ≡ (r && (p && (q && u)))
       turn p q false u = lost (p && q)
@@ -50,84 +50,84 @@ module _ (s : ℕ) (f : List ℕ → Bool) (t : List ℕ) where
       turn true q true u = refl
       turn false q true u = refl
 
-  later-end : (m at : ℕ) → m ≡ 0 → later m at ≡ true
+  later_end : (m at : ℕ) → m ≡ 0 → later m at ≡ true
   unfolding later runs all
-  later-end m at e = rw e
+  later_end m at e = rw e
 
 -- ---- the rows of one of the three tables
 
 -- a record has its reserved byte and its identifier at least
-size-some : (k : Keyed) → 17 ≤ size_of k
-size-some Checkpoints = omega arith
-size-some Index = omega arith
-size-some Presence = omega arith
+size_some : (k : Keyed) → 17 ≤ size_of k
+size_some Checkpoints = omega arith
+size_some Index = omega arith
+size_some Presence = omega arith
 
 module _ (k : Keyed) (t : List ℕ) (by : AreBytes t) where
   abbrev s : ℕ
   s = size_of k
 
   -- no record
-  pub rows_none : (n : ℕ) → n ≡ 0 → true ≡ rowsOk k n t
-  unfolding rowsOk runs all
+  pub rows_none : (n : ℕ) → n ≡ 0 → true ≡ rows_ok k n t
+  unfolding rows_ok runs all
   rows_none n e = rw e
 
   -- the first record
   module _ (n : ℕ) (some : 0 < n) (x : Row) (ex : x ≡ row_of k (part 2 s t)) where
-    first-form : rowForm k (part 2 s t) ≡ x.formed
-    first-form = sym (ap (λ (r : Row). r.formed) ex)
+    first_form : row_form k (part 2 s t) ≡ x.formed
+    first_form = sym (ap (λ (r : Row). r.formed) ex)
 
-    pub first-not : not x.formed ≡ true → false ≡ rowsOk k n t
-    unfolding rowsOk
-    first-not h = sym (from_first s (rowForm k) t n some ∙ ap (λ b. b && later s (rowForm k) t (n - 1) 2) (first-form ∙ not-true x.formed h))
+    pub first_not : not x.formed ≡ true → false ≡ rows_ok k n t
+    unfolding rows_ok
+    first_not h = sym (from_first s (row_form k) t n some ∙ ap (λ b. b && later s (row_form k) t (n - 1) 2) (first_form ∙ not-true x.formed h))
 
-    pub first-yes : not x.formed ≡ false → rowsOk k n t ≡ later s (rowForm k) t (n - 1) 2
-    unfolding rowsOk
-    first-yes h = from_first s (rowForm k) t n some ∙ ap (λ b. b && later s (rowForm k) t (n - 1) 2) (first-form ∙ not-false x.formed h)
+    pub first_yes : not x.formed ≡ false → rows_ok k n t ≡ later s (row_form k) t (n - 1) 2
+    unfolding rows_ok
+    first_yes h = from_first s (row_form k) t n some ∙ ap (λ b. b && later s (row_form k) t (n - 1) 2) (first_form ∙ not-false x.formed h)
 
   -- record i, which stands behind the record at a place
-  module _ (n i at : ℕ) (l : i < n) (e : rowsOk k n t ≡ later s (rowForm k) t (n - i) at) (y : Row) (ey : y ≡ row_of k (part (at + s) s t)) where
-    next-form : rowForm k (part (at + s) s t) ≡ y.formed
-    next-form = sym (ap (λ (r : Row). r.formed) ey)
+  module _ (n i at : ℕ) (l : i < n) (e : rows_ok k n t ≡ later s (row_form k) t (n - i) at) (y : Row) (ey : y ≡ row_of k (part (at + s) s t)) where
+    next_form : row_form k (part (at + s) s t) ≡ y.formed
+    next_form = sym (ap (λ (r : Row). r.formed) ey)
 
-    next-is : rowsOk k n t ≡ (y.formed && (isLess (cmp s (part at s t) (part (at + s) s t)) && later s (rowForm k) t (n - (i + 1)) (at + s)))
-    next-is =
+    next_is : rows_ok k n t ≡ (y.formed && (is_less (cmp s (part at s t) (part (at + s) s t)) && later s (row_form k) t (n - (i + 1)) (at + s)))
+    next_is =
         let f : n - i ≡ suc (n - (i + 1)) = omega arith in
         e
-        ∙ ap (λ m. later s (rowForm k) t m at) f
-        ∙ later-next s (rowForm k) t (n - (i + 1)) at
-        ∙ ap (λ b. b && (isLess (cmp s (part at s t) (part (at + s) s t)) && later s (rowForm k) t (n - (i + 1)) (at + s))) next-form
+        ∙ ap (λ m. later s (row_form k) t m at) f
+        ∙ later_next s (row_form k) t (n - (i + 1)) at
+        ∙ ap (λ b. b && (is_less (cmp s (part at s t) (part (at + s) s t)) && later s (row_form k) t (n - (i + 1)) (at + s))) next_form
 
-    pub next-not : not y.formed ≡ true → false ≡ rowsOk k n t
-    next-not h = sym (next-is ∙ ap (λ b. b && (isLess (cmp s (part at s t) (part (at + s) s t)) && later s (rowForm k) t (n - (i + 1)) (at + s))) (not-true y.formed h))
+    pub next_not : not y.formed ≡ true → false ≡ rows_ok k n t
+    next_not h = sym (next_is ∙ ap (λ b. b && (is_less (cmp s (part at s t) (part (at + s) s t)) && later s (row_form k) t (n - (i + 1)) (at + s))) (not-true y.formed h))
 
     -- both are in form: their numbers decide
-    module _ (h : not y.formed ≡ false) (x : Row) (ex : x ≡ row_of k (part at s t)) (fx : x.formed ≡ true) (room : at + s + s ≤ length t) (b : Bool) (eb : b ≡ isLess (rowOrder x y)) where
-      below-is : isLess (cmp s (part at s t) (part (at + s) s t)) ≡ b
-      below-is =
-          ap isLess
-          (row-order (part at s t) (part (at + s) s t) (P.bytes-part at s t by) (P.bytes-part (at + s) s t by) k (P.length_part at s t (omega arith)) (P.length_part (at + s) s t room)
-          (sym (ap (λ (r : Row). r.formed) ex) ∙ fx) (next-form ∙ not-false y.formed h)
-          ∙ ap₂ rowOrder (sym ex) (sym ey))
+    module _ (h : not y.formed ≡ false) (x : Row) (ex : x ≡ row_of k (part at s t)) (fx : x.formed ≡ true) (room : at + s + s ≤ length t) (b : Bool) (eb : b ≡ is_less (row_order x y)) where
+      below_is : is_less (cmp s (part at s t) (part (at + s) s t)) ≡ b
+      below_is =
+          ap is_less
+          (row_order_lem (part at s t) (part (at + s) s t) (P.bytes_part at s t by) (P.bytes_part (at + s) s t by) k (P.length_part at s t (omega arith)) (P.length_part (at + s) s t room)
+          (sym (ap (λ (r : Row). r.formed) ex) ∙ fx) (next_form ∙ not-false y.formed h)
+          ∙ ap₂ row_order (sym ex) (sym ey))
           ∙ sym eb
 
-      both : rowsOk k n t ≡ (b && later s (rowForm k) t (n - (i + 1)) (at + s))
-      both = next-is ∙ ap₂ (λ p q. p && (q && later s (rowForm k) t (n - (i + 1)) (at + s))) (not-false y.formed h) below-is
+      both : rows_ok k n t ≡ (b && later s (row_form k) t (n - (i + 1)) (at + s))
+      both = next_is ∙ ap₂ (λ p q. p && (q && later s (row_form k) t (n - (i + 1)) (at + s))) (not-false y.formed h) below_is
 
-      pub below-not : not b ≡ true → false ≡ rowsOk k n t
-      below-not g = sym (both ∙ ap (λ q. q && later s (rowForm k) t (n - (i + 1)) (at + s)) (not-true b g))
+      pub below_not : not b ≡ true → false ≡ rows_ok k n t
+      below_not g = sym (both ∙ ap (λ q. q && later s (row_form k) t (n - (i + 1)) (at + s)) (not-true b g))
 
-      pub next-yes : not b ≡ false → rowsOk k n t ≡ later s (rowForm k) t (n - (i + 1)) (at + s)
-      next-yes g = both ∙ ap (λ q. q && later s (rowForm k) t (n - (i + 1)) (at + s)) (not-false b g)
+      pub next_yes : not b ≡ false → rows_ok k n t ≡ later s (row_form k) t (n - (i + 1)) (at + s)
+      next_yes g = both ∙ ap (λ q. q && later s (row_form k) t (n - (i + 1)) (at + s)) (not-false b g)
 
   -- no record is left
-  pub rows_end : (n i at : ℕ) → n ≤ i → rowsOk k n t ≡ later s (rowForm k) t (n - i) at → true ≡ rowsOk k n t
-  rows_end n i at h e = sym (e ∙ later-end s (rowForm k) t (n - i) at (omega arith))
+  pub rows_end : (n i at : ℕ) → n ≤ i → rows_ok k n t ≡ later s (row_form k) t (n - i) at → true ≡ rows_ok k n t
+  rows_end n i at h e = sym (e ∙ later_end s (row_form k) t (n - i) at (omega arith))
 
 -- ---- the table
 
 -- the three tables are asked for one thing
-table_is : (k : Keyed) (t : List ℕ) → tableOk k t ≡ (wellOrdered (size_of k) (size_of k) t && all (rowForm k) (recs (size_of k) t))
-unfolding formedIn checkpointBytes entryBytes presentBytes logLsnBytes logPageLsnBytes sidPageBytes
+table_is : (k : Keyed) (t : List ℕ) → table_ok k t ≡ (well_ordered (size_of k) (size_of k) t && all (row_form k) (recs (size_of k) t))
+unfolding formed_in checkpoint_bytes entry_bytes present_bytes log_lsn_bytes log_page_lsn_bytes sid_page_bytes
 table_is Checkpoints t = refl
 table_is Index t = refl
 table_is Presence t = refl
@@ -139,38 +139,38 @@ module _ (k : Keyed) (t : List ℕ) (b : Bool) (eb : b ≡ (leb 2 (length t) && 
   counted true false r u = refl
   counted false q r u = refl
 
-  table-parts : tableOk k t ≡ (b && (rises (size_of k) (recs (size_of k) t) && all (rowForm k) (recs (size_of k) t)))
-  unfolding wellOrdered
-  table-parts =
+  table_parts : table_ok k t ≡ (b && (rises (size_of k) (recs (size_of k) t) && all (row_form k) (recs (size_of k) t)))
+  unfolding well_ordered
+  table_parts =
       table_is k t
-      ∙ counted (leb 2 (length t)) (leb (count_of t) (cap_of (size_of k) t)) (rises (size_of k) (recs (size_of k) t)) (all (rowForm k) (recs (size_of k) t))
-      ∙ ap (λ c. c && (rises (size_of k) (recs (size_of k) t) && all (rowForm k) (recs (size_of k) t))) (sym eb)
+      ∙ counted (leb 2 (length t)) (leb (count_of t) (cap_of (size_of k) t)) (rises (size_of k) (recs (size_of k) t)) (all (row_form k) (recs (size_of k) t))
+      ∙ ap (λ c. c && (rises (size_of k) (recs (size_of k) t) && all (row_form k) (recs (size_of k) t))) (sym eb)
 
-  pub count-not : not b ≡ true → false ≡ tableOk k t
-  count-not h = sym (table-parts ∙ ap (λ c. c && (rises (size_of k) (recs (size_of k) t) && all (rowForm k) (recs (size_of k) t))) (not-true b h))
+  pub count_not : not b ≡ true → false ≡ table_ok k t
+  count_not h = sym (table_parts ∙ ap (λ c. c && (rises (size_of k) (recs (size_of k) t) && all (row_form k) (recs (size_of k) t))) (not-true b h))
 
   module _ (h : not b ≡ false) where
     test : (leb 2 (length t) && leb (count_of t) (cap_of (size_of k) t)) ≡ true
     test = sym eb ∙ not-false b h
 
-    pub count-two : 2 ≤ length t
-    count-two = leb-true 2 (length t) (and-fst (leb 2 (length t)) (leb (count_of t) (cap_of (size_of k) t)) test)
+    pub count_two : 2 ≤ length t
+    count_two = leb-true 2 (length t) (and_fst (leb 2 (length t)) (leb (count_of t) (cap_of (size_of k) t)) test)
 
     pub count_room : (n : ℕ) → n ≡ count_of t → 2 + n * size_of k ≤ length t
     count_room n e =
-        let l : count_of t ≤ cap_of (size_of k) t = leb-true (count_of t) (cap_of (size_of k) t) (and-snd (leb 2 (length t)) (leb (count_of t) (cap_of (size_of k) t)) test) in
-        cap-room (size_of k) n t (omega (arith, size-some k)) count-two (omega arith)
+        let l : count_of t ≤ cap_of (size_of k) t = leb-true (count_of t) (cap_of (size_of k) t) (and_snd (leb 2 (length t)) (leb (count_of t) (cap_of (size_of k) t)) test) in
+        cap_room (size_of k) n t (omega (arith, size_some k)) count_two (omega arith)
 
-    pub table-rows : (n : ℕ) → n ≡ count_of t → rowsOk k n t ≡ tableOk k t
-    unfolding rowsOk
-    table-rows n e =
-        ap (λ l. rises (size_of k) l && all (rowForm k) l) (recs-are (size_of k) n t e)
-        ∙ sym (table-parts ∙ ap (λ c. c && (rises (size_of k) (recs (size_of k) t) && all (rowForm k) (recs (size_of k) t))) (not-false b h))
+    pub table_rows : (n : ℕ) → n ≡ count_of t → rows_ok k n t ≡ table_ok k t
+    unfolding rows_ok
+    table_rows n e =
+        ap (λ l. rises (size_of k) l && all (row_form k) l) (recs_are (size_of k) n t e)
+        ∙ sym (table_parts ∙ ap (λ c. c && (rises (size_of k) (recs (size_of k) t) && all (row_form k) (recs (size_of k) t))) (not-false b h))
 
 -- the test of the count, as the code makes it
 module _ (s : ℕ) (t : List ℕ) where
-  pub count-short : length t < 2 → false ≡ (leb 2 (length t) && leb (count_of t) (cap_of s t))
-  count-short h = sym (ap (λ b. b && leb (count_of t) (cap_of s t)) (lt-leb 2 (length t) h))
+  pub count_short : length t < 2 → false ≡ (leb 2 (length t) && leb (count_of t) (cap_of s t))
+  count_short h = sym (ap (λ b. b && leb (count_of t) (cap_of s t)) (lt-leb 2 (length t) h))
 
-  pub count-rest : 2 ≤ length t → leb (count_of t) (cap_of s t) ≡ (leb 2 (length t) && leb (count_of t) (cap_of s t))
-  count-rest h = sym (ap (λ b. b && leb (count_of t) (cap_of s t)) (le-leb 2 (length t) h))
+  pub count_rest : 2 ≤ length t → leb (count_of t) (cap_of s t) ≡ (leb 2 (length t) && leb (count_of t) (cap_of s t))
+  count_rest h = sym (ap (λ b. b && leb (count_of t) (cap_of s t)) (le-leb 2 (length t) h))

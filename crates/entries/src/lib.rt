@@ -2,17 +2,17 @@
 // A table is checked in one pass that carries the numbers of the record before, so that each byte is loaded once.
 ghost use Rattle.std.specs.Prelude.{◌≡◌, ◌+◌, ◌*◌, ◌<◌, ◌≤◌, not, ◌&&◌, length, ◌==◌, nat_le};
 ghost use Rattle.octets.specs.Bytes.{part};
-ghost use Rattle.octets.specs.Order.{isLess};
+ghost use Rattle.octets.specs.Order.{is_less};
 ghost use Rattle.table.specs.Table.{count_of, cap_of};
-ghost use Rattle.rules.specs.Forms.{checkpointForm, entryForm, presentForm};
-ghost use Rattle.layout.specs.Codecs.{inForm};
-ghost use Rattle.layout.specs.Records.{logPageLsnBytes, sidPageBytes, checkpointBytes, entryBytes, presentBytes};
-ghost use Rattle.layout.specs.Tables.{checkpointsOk, indexOk, presenceOk};
-ghost use Rattle.entries.specs.Keys.{Checkpoints, Index, Presence, rowsOk, row_of, rowOrder};
+ghost use Rattle.rules.specs.Forms.{checkpoint_form, entry_form, present_form};
+ghost use Rattle.layout.specs.Codecs.{in_form};
+ghost use Rattle.layout.specs.Records.{log_page_lsn_bytes, sid_page_bytes, checkpoint_bytes, entry_bytes, present_bytes};
+ghost use Rattle.layout.specs.Tables.{checkpoints_ok, index_ok, presence_ok};
+ghost use Rattle.entries.specs.Keys.{Checkpoints, Index, Presence, rows_ok, row_of, row_order};
 
-use core::id::{LogId, SegmentId};
-use core::lsn::Lsn;
-use core::pageidx::PageIdx;
+use basics::id::{LogId, SegmentId};
+use basics::lsn::Lsn;
+use basics::pageidx::PageIdx;
 use layout::{CHECKPOINT, ENTRY, PRESENT};
 
 // A record as numbers: the halves of its identifier, its page and its LSN as its bytes have them, 0 where it has none.
@@ -61,7 +61,7 @@ fn present_numbers(reserved: u8, page: u64) -> bool
 // Whether the bytes at a place are a checkpoint in form.
 pub fn checkpoint_form(s: &[u8], at: usize) -> bool
     requires { at + 25 ≤ length s.now }
-    ensures { result ≡ inForm checkpointBytes checkpointForm (part at 25 s.now) }
+    ensures { result ≡ in_form checkpoint_bytes checkpoint_form (part at 25 s.now) }
 {
     let reserved = octets::load8(s, at);
     let lsn = octets::load64(s, at + 17);
@@ -90,7 +90,7 @@ fn checkpoint_row(s: &[u8], at: usize) -> Row
 // Whether the bytes at a place are an index entry in form.
 pub fn entry_form(s: &[u8], at: usize) -> bool
     requires { at + 29 ≤ length s.now }
-    ensures { result ≡ inForm entryBytes entryForm (part at 29 s.now) }
+    ensures { result ≡ in_form entry_bytes entry_form (part at 29 s.now) }
 {
     let reserved = octets::load8(s, at);
     let page = octets::load32(s, at + 17) as u64;
@@ -121,7 +121,7 @@ fn entry_row(s: &[u8], at: usize) -> Row
 // Whether the bytes at a place are a present page in form.
 pub fn present_form(s: &[u8], at: usize) -> bool
     requires { at + 21 ≤ length s.now }
-    ensures { result ≡ inForm presentBytes presentForm (part at 21 s.now) }
+    ensures { result ≡ in_form present_bytes present_form (part at 21 s.now) }
 {
     let reserved = octets::load8(s, at);
     let page = octets::load32(s, at + 17) as u64;
@@ -149,7 +149,7 @@ fn present_row(s: &[u8], at: usize) -> Row
 
 // Whether the numbers of a record stand below those of another.
 fn below(x: Row, y: Row) -> bool
-    ensures { result ≡ isLess (rowOrder x y) }
+    ensures { result ≡ is_less (row_order x y) }
 {
     if x.high != y.high {
         return x.high < y.high;
@@ -177,7 +177,7 @@ fn count_fits(t: &[u8], stride: usize) -> bool
 // Whether the keys of the first n checkpoints strictly rise and each is in form.
 fn checkpoint_rows(s: &[u8], n: usize) -> bool
     requires { 2 + n * 25 ≤ length s.now }
-    ensures { result ≡ rowsOk Checkpoints n s.now }
+    ensures { result ≡ rows_ok Checkpoints n s.now }
 {
     if n == 0 {
         return true;
@@ -207,7 +207,7 @@ fn checkpoint_rows(s: &[u8], n: usize) -> bool
 // Whether the keys of the first n index entries strictly rise and each is in form.
 fn entry_rows(s: &[u8], n: usize) -> bool
     requires { 2 + n * 29 ≤ length s.now }
-    ensures { result ≡ rowsOk Index n s.now }
+    ensures { result ≡ rows_ok Index n s.now }
 {
     if n == 0 {
         return true;
@@ -237,7 +237,7 @@ fn entry_rows(s: &[u8], n: usize) -> bool
 // Whether the keys of the first n present pages strictly rise and each is in form.
 fn present_rows(s: &[u8], n: usize) -> bool
     requires { 2 + n * 21 ≤ length s.now }
-    ensures { result ≡ rowsOk Presence n s.now }
+    ensures { result ≡ rows_ok Presence n s.now }
 {
     if n == 0 {
         return true;
@@ -266,7 +266,7 @@ fn present_rows(s: &[u8], n: usize) -> bool
 
 // Whether t is a table of checkpoints: a count that it can hold, keys that strictly rise, each record in form (20).
 pub fn checkpoints_formed(t: &[u8]) -> bool
-    ensures { result ≡ checkpointsOk t.now }
+    ensures { result ≡ checkpoints_ok t.now }
 {
     if !count_fits(t, CHECKPOINT) {
         return false;
@@ -276,7 +276,7 @@ pub fn checkpoints_formed(t: &[u8]) -> bool
 
 // Whether t is a page index: a count that it can hold, keys that strictly rise, each record in form (20).
 pub fn index_formed(t: &[u8]) -> bool
-    ensures { result ≡ indexOk t.now }
+    ensures { result ≡ index_ok t.now }
 {
     if !count_fits(t, ENTRY) {
         return false;
@@ -286,7 +286,7 @@ pub fn index_formed(t: &[u8]) -> bool
 
 // Whether t is a table of present pages: a count that it can hold, keys that strictly rise, each record in form (20).
 pub fn presence_formed(t: &[u8]) -> bool
-    ensures { result ≡ presenceOk t.now }
+    ensures { result ≡ presence_ok t.now }
 {
     if !count_fits(t, PRESENT) {
         return false;
@@ -296,7 +296,7 @@ pub fn presence_formed(t: &[u8]) -> bool
 
 // The key of the index entry of a page at an LSN of a log.
 pub fn entry_key(log: LogId, page: PageIdx, lsn: Lsn) -> [u8; 29]
-    ensures { result ≡ logPageLsnBytes.spell (log, (page.0, lsn.0)) }
+    ensures { result ≡ log_page_lsn_bytes.spell (log, (page.0, lsn.0)) }
 {
     let mut key = [0u8; 29];
     octets::store_id(&mut key, 1, log);
@@ -307,7 +307,7 @@ pub fn entry_key(log: LogId, page: PageIdx, lsn: Lsn) -> [u8; 29]
 
 // The key of a segment's page that is present.
 pub fn present_key(sid: SegmentId, page: PageIdx) -> [u8; 21]
-    ensures { result ≡ sidPageBytes.spell (sid, page.0) }
+    ensures { result ≡ sid_page_bytes.spell (sid, page.0) }
 {
     let mut key = [0u8; 21];
     octets::store_id(&mut key, 1, sid);
@@ -318,7 +318,7 @@ pub fn present_key(sid: SegmentId, page: PageIdx) -> [u8; 21]
 // The LSN of the checkpoint at a place.
 pub fn checkpoint_lsn(s: &[u8], at: usize) -> Lsn
     requires { at + 25 ≤ length s.now }
-    ensures { result.0 ≡ (checkpointBytes.read (part at 25 s.now)).lsn }
+    ensures { result.0 ≡ (checkpoint_bytes.read (part at 25 s.now)).lsn }
 {
     Lsn(18446744073709551615 - octets::load64(s, at + 17))
 }
@@ -326,7 +326,7 @@ pub fn checkpoint_lsn(s: &[u8], at: usize) -> Lsn
 // The LSN of the index entry at a place.
 pub fn entry_lsn(s: &[u8], at: usize) -> Lsn
     requires { at + 29 ≤ length s.now }
-    ensures { result.0 ≡ (entryBytes.read (part at 29 s.now)).lsn }
+    ensures { result.0 ≡ (entry_bytes.read (part at 29 s.now)).lsn }
 {
     Lsn(18446744073709551615 - octets::load64(s, at + 21))
 }
@@ -334,7 +334,7 @@ pub fn entry_lsn(s: &[u8], at: usize) -> Lsn
 // The page of the index entry at a place.
 pub fn entry_page(s: &[u8], at: usize) -> PageIdx
     requires { at + 29 ≤ length s.now }
-    ensures { result.0 ≡ (entryBytes.read (part at 29 s.now)).page }
+    ensures { result.0 ≡ (entry_bytes.read (part at 29 s.now)).page }
 {
     PageIdx(octets::load32(s, at + 17))
 }
@@ -342,7 +342,7 @@ pub fn entry_page(s: &[u8], at: usize) -> PageIdx
 // The present page at a place.
 pub fn present_page(s: &[u8], at: usize) -> PageIdx
     requires { at + 21 ≤ length s.now }
-    ensures { result.0 ≡ (presentBytes.read (part at 21 s.now)).page }
+    ensures { result.0 ≡ (present_bytes.read (part at 21 s.now)).page }
 {
     PageIdx(4294967295 - octets::load32(s, at + 17))
 }

@@ -5,7 +5,7 @@ use Rattle.pageset.specs.Sets.{shown}
 use Rattle.rules.specs.Pages.{span}
 use Rattle.rules.specs.Frames.{Part}
 use Rattle.commit.specs.declared.SegmentIdx.{SegmentIdx}
-use Rattle.std.specs.Answers.{Answer, refused, done}
+use Rattle.basics.specs.Answers.{Answer, refused, done}
 use Rattle.frames.specs.declared.BytesAnswer.{BytesAnswer}
 use Rattle.frames.specs.declared.BytesAnswer.TheVariants as Bytes
 use Rattle.frames.specs.declared.Run.{Run}
@@ -13,13 +13,13 @@ use Rattle.frames.specs.declared.Place.{Place}
 use Rattle.frames.specs.declared.Place.TheVariants.{At, Nothing}
 
 -- the frame that lies there
-abbrev pub runPart : SegmentIdx → Run → Part
-runPart s r = record { sid = s.sid; start = r.start; end = r.end; pages = span r.first.0 r.last.0 (shown s.pages) }
+abbrev pub run_part : SegmentIdx → Run → Part
+run_part s r = record { sid = s.sid; start = r.start; end = r.end; pages = span r.first.0 r.last.0 (shown s.pages) }
 
 -- a place, or none
-abbrev pub placeSays : SegmentIdx → Place → Option Part
-placeSays s (At r) = some (runPart s r)
-placeSays s Nothing = none
+abbrev pub place_says : SegmentIdx → Place → Option Part
+place_says s (At r) = some (run_part s r)
+place_says s Nothing = none
 
 -- a frame does not end before it starts, and does not start at page 0
 abbrev pub Placed : Place → Type 0
@@ -29,10 +29,10 @@ Placed Nothing = Unit {0}
 -- ---- the bytes of a frame in a lent segment
 
 -- what the answer says
-abbrev pub bytesSays : BytesAnswer → Answer (Option (ℕ × ℕ))
-bytesSays (Bytes.Refused n) = refused n
-bytesSays (Bytes.At start end) = done (some (start, end))
-bytesSays Bytes.Nothing = done none
+abbrev pub bytes_says : BytesAnswer → Answer (Option (ℕ × ℕ))
+bytes_says (Bytes.Refused n) = refused n
+bytes_says (Bytes.At start end) = done (some (start, end))
+bytes_says Bytes.Nothing = done none
 
 -- they are there
 abbrev pub Within : BytesAnswer → ℕ → Type 0

@@ -2,16 +2,16 @@
 ghost use Rattle.std.specs.Prelude.{◌≡◌, ◌+◌, ◌<◌, ◌≤◌, true, length, drop};
 ghost use Rattle.std.proofs.Math.Option.{some};
 ghost use Rattle.pageset.specs.Sets.{shown, normal};
-ghost use Rattle.rules.specs.Frames.{part_of, parts_of, withinLent};
-ghost use Rattle.rules.specs.Forms.{startPage, framesForm};
-ghost use Rattle.commit.specs.Says.{listed, segmentSays, IsRange, Tells};
-ghost use Rattle.frames.specs.Places.{runPart, placeSays, Placed, bytesSays, Within};
+ghost use Rattle.rules.specs.Frames.{part_of, parts_of, within_lent};
+ghost use Rattle.rules.specs.Forms.{start_page, frames_form};
+ghost use Rattle.commit.specs.Says.{listed, segment_says, IsRange, Tells};
+ghost use Rattle.frames.specs.Places.{run_part, place_says, Placed, bytes_says, Within};
 ghost use Rattle.frames.specs.Parts.{Filled, Lists};
-ghost use Rattle.frames.specs.Rules.{noFrames, framesOk, listRule, frameRule, bytesRule, partBytes, cutBytes};
+ghost use Rattle.frames.specs.Rules.{no_frames, frames_ok, list_rule, frame_rule, bytes_rule, part_bytes, cut_bytes};
 
 use commit::{RangeAnswer, SegmentIdx, SegmentRange, found_range, no_range};
-use core::page_count::MaybePage;
-use core::pageidx::PageIdx;
+use basics::page_count::MaybePage;
+use basics::pageidx::PageIdx;
 use pageset::{PageSet, form, sets};
 
 // Where a frame lies: from start up to but not at end, and from its first page to its last.
@@ -49,7 +49,7 @@ pub struct FrameList {
 // The number before the page at which frame 1 starts: the set's first page, or page 1 where it has none.
 fn before_first(pages: PageSet) -> u32
     requires { normal pages ≡ true }
-    ensures { result + 1 ≡ startPage (shown pages) }
+    ensures { result + 1 ≡ start_page (shown pages) }
 {
     let first = sets::first(pages);
     match first {
@@ -61,7 +61,7 @@ fn before_first(pages: PageSet) -> u32
 // Whether the frames that do not count are zero.
 fn clear_past(s: SegmentIdx) -> bool
     requires { s.len ≤ 16 }
-    ensures { result ≡ noFrames (drop s.len s.frames) }
+    ensures { result ≡ no_frames (drop s.len s.frames) }
 {
     let fs = s.frames;
     let mut i: usize = s.len;
@@ -82,7 +82,7 @@ fn clear_past(s: SegmentIdx) -> bool
 fn in_domain(s: SegmentIdx) -> bool
     requires pages_value { normal s.pages ≡ true }
     requires len_bound { s.len ≤ 16 }
-    ensures { result ≡ framesForm (shown s.pages) (listed s) }
+    ensures { result ≡ frames_form (shown s.pages) (listed s) }
 {
     let pages = s.pages;
     let n = s.len;
@@ -107,7 +107,7 @@ fn in_domain(s: SegmentIdx) -> bool
 
 // Whether a segment's set and its frames are in form; where they are not, the calls that take the segment answer 3.
 pub fn frames_ok(s: SegmentIdx) -> bool
-    ensures { result ≡ framesOk s }
+    ensures { result ≡ frames_ok s }
 {
     let pages = s.pages;
     if !form::is_normal(pages) {
@@ -124,8 +124,8 @@ pub fn frames_ok(s: SegmentIdx) -> bool
 
 // Where the frame of a page lies: one walk that adds the sizes and carries the page before the next frame.
 fn locate(s: SegmentIdx, page: PageIdx) -> Place
-    requires { framesOk s ≡ true }
-    ensures says { placeSays s result ≡ part_of (segmentSays s) page.0 }
+    requires { frames_ok s ≡ true }
+    ensures says { place_says s result ≡ part_of (segment_says s) page.0 }
     ensures placed { Placed result }
 {
     let pages = s.pages;
@@ -162,7 +162,7 @@ fn locate(s: SegmentIdx, page: PageIdx) -> Place
 fn frame_at(s: SegmentIdx, run: Run) -> SegmentRange
     requires pages_value { normal s.pages ≡ true }
     requires first_nonzero { 0 < run.first.0 }
-    ensures { IsRange (runPart s run) result }
+    ensures { IsRange (run_part s run) result }
 {
     let sid = s.sid;
     let from = s.pages;
@@ -179,7 +179,7 @@ fn frame_at(s: SegmentIdx, run: Run) -> SegmentRange
 
 // The frame of a page: 1 for page 0, 3 for a segment that is not in form, then the frame or none.
 pub fn frame_for(s: SegmentIdx, page: PageIdx) -> RangeAnswer
-    ensures { Tells result (frameRule s page.0) }
+    ensures { Tells result (frame_rule s page.0) }
 {
     if page.0 == 0 {
         return no_range(1);
@@ -196,8 +196,8 @@ pub fn frame_for(s: SegmentIdx, page: PageIdx) -> RangeAnswer
 
 // Sixteen places for frames: those of a segment in form, and zeros past them. One walk that adds the sizes and carries the page before the next frame.
 fn all_frames(s: SegmentIdx) -> [SegmentRange; 16]
-    requires { framesOk s ≡ true }
-    ensures { Filled (parts_of (segmentSays s)) result }
+    requires { frames_ok s ≡ true }
+    ensures { Filled (parts_of (segment_says s)) result }
 {
     let n = s.len;
     let fs = s.frames;
@@ -227,7 +227,7 @@ fn all_frames(s: SegmentIdx) -> [SegmentRange; 16]
 
 // The frames of a segment in their order, also those that hold no page or no byte: 3 for a segment that is not in form.
 pub fn frame_list(s: SegmentIdx) -> FrameList
-    ensures { Lists result (listRule s) }
+    ensures { Lists result (list_rule s) }
 {
     if !frames_ok(s) {
         let none = SegmentRange::zero();
@@ -248,7 +248,7 @@ pub fn frame_list(s: SegmentIdx) -> FrameList
 // Where the bytes of a frame lie: 23 where it reaches past the lent bytes.
 fn in_lent(s: SegmentIdx, run: Run, lent: usize) -> BytesAnswer
     requires { run.start ≤ run.end }
-    ensures says { bytesSays result ≡ partBytes (withinLent lent (some (runPart s run))) }
+    ensures says { bytes_says result ≡ part_bytes (within_lent lent (some (run_part s run))) }
     ensures within { Within result lent }
 {
     let start = run.start as usize;
@@ -261,7 +261,7 @@ fn in_lent(s: SegmentIdx, run: Run, lent: usize) -> BytesAnswer
 
 // Where the bytes of a page's frame lie in a lent segment: 1 for page 0, 3 for a segment that is not in form, then none or 23 or the place.
 pub fn frame_place(s: SegmentIdx, page: PageIdx, lent: usize) -> BytesAnswer
-    ensures says { bytesSays result ≡ partBytes (bytesRule s page.0 lent) }
+    ensures says { bytes_says result ≡ part_bytes (bytes_rule s page.0 lent) }
     ensures within { Within result lent }
 {
     if page.0 == 0 {
@@ -279,7 +279,7 @@ pub fn frame_place(s: SegmentIdx, page: PageIdx, lent: usize) -> BytesAnswer
 
 // The bytes of a page's frame, as a part of the lent segment. Where `frame_place` answers no frame or a refusal, the part is empty.
 pub fn frame_bytes<'a>(s: SegmentIdx, page: PageIdx, bytes: &'a [u8]) -> &'a [u8]
-    ensures { result.now ≡ cutBytes (partBytes (bytesRule s page.0 (length bytes.now))) bytes.now }
+    ensures { result.now ≡ cut_bytes (part_bytes (bytes_rule s page.0 (length bytes.now))) bytes.now }
 {
     let place = frame_place(s, page, bytes.len());
     match place {

@@ -2,26 +2,26 @@
 // commit's set, which stay where they stand. What the notes know of the pages that earlier commits hold is taken from it at once; only for what they do not know the earlier commits are asked.
 pub mod paths;
 
-ghost use Rattle.core.specs.Prelude.{◌≡◌, ◌+◌, ◌*◌, ◌<◌, ◌≤◌, true, not, ◌∷◌, length};
+ghost use Rattle.std.specs.Prelude.{◌≡◌, ◌+◌, ◌*◌, ◌<◌, ◌≤◌, true, not, ◌∷◌, length};
 ghost use Rattle.octets.specs.Bytes.{put};
 ghost use Rattle.table.specs.Table.{count_of};
-ghost use Rattle.pageset.specs.Sets.{rising, normalForm};
+ghost use Rattle.pageset.specs.Sets.{rising, normal_form};
 ghost use Rattle.rules.specs.Lists.{is_some};
 ghost use Rattle.rules.specs.Pages.{is_empty};
-ghost use Rattle.rules.specs.Write.{pagesOf};
+ghost use Rattle.rules.specs.Write.{pages_of};
 ghost use Rattle.rules.specs.Walk.{gift as giftOf};
-ghost use Rattle.layout.specs.Values.{setBytes};
-ghost use Rattle.layout.specs.Tables.{commitsOk};
-ghost use Rattle.setbytes.specs.Laid.{windows_at, setLaid};
-ghost use Rattle.masks.specs.Masks.{given, lessMasks, moreMasks, noMasks};
+ghost use Rattle.layout.specs.Values.{set_bytes};
+ghost use Rattle.layout.specs.Tables.{commits_ok};
+ghost use Rattle.setbytes.specs.Laid.{windows_at, set_laid};
+ghost use Rattle.masks.specs.Masks.{given, less_masks, more_masks, no_masks};
 ghost use Rattle.notes.specs.Known.{Known};
-ghost use Rattle.commits.specs.Places.{commitAt};
-ghost use Rattle.gifts.specs.Paths.{placesIn, Inside, commitsAt, before};
-ghost use Rattle.gifts.specs.Steps.{stepFrom, GiftIn, found_from};
-ghost use Rattle.gifts.specs.Held.{Clear, heldBy, lessAll, Small, AsSorted};
+ghost use Rattle.commits.specs.Places.{commit_at};
+ghost use Rattle.gifts.specs.Paths.{places_in, Inside, commits_at, before};
+ghost use Rattle.gifts.specs.Steps.{step_from, GiftIn, found_from};
+ghost use Rattle.gifts.specs.Held.{Clear, held_by, less_all, Small, AsSorted};
 
 use commits::{Place, has_segment_at, row};
-use core::page_count::PageCount;
+use basics::page_count::PageCount;
 use masks::{kept, less, more, none_left, put_given};
 use notes::note;
 use octets::{load32, load64};
@@ -46,8 +46,8 @@ pub struct Found {
 
 // Whether the pages of record i are seen to have no window from lo to hi, by a look at their first and last window where they stand.
 fn apart(commits: &[u8], i: usize, lo: u32, hi: u32) -> bool
-    requires { (commitsOk commits.now ≡ true) × (i < count_of commits.now) }
-    ensures { result ≡ true → Clear lo hi (pagesOf (commitAt commits.now i).segment) }
+    requires { (commits_ok commits.now ≡ true) × (i < count_of commits.now) }
+    ensures { result ≡ true → Clear lo hi (pages_of (commit_at commits.now i).segment) }
 {
     if !has_segment_at(commits, i) {
         return true;
@@ -65,9 +65,9 @@ fn apart(commits: &[u8], i: usize, lo: u32, hi: u32) -> bool
 
 // The masks of n windows without the pages of record i.
 fn take_away(commits: &[u8], at: usize, n: usize, masks: &mut [u64], i: usize)
-    requires commits_value { (commitsOk commits.now ≡ true) × (i < count_of commits.now) }
+    requires commits_value { (commits_ok commits.now ≡ true) × (i < count_of commits.now) }
     requires n_in_bounds { (at + n * 12 ≤ length commits.now) × (n ≤ 32) × (rising 0 (windows_at n at commits.now) ≡ true) × (length masks.old ≡ 32) }
-    ensures { masks.new ≡ lessMasks (windows_at n at commits.now) (pagesOf (commitAt commits.now i).segment) masks.old }
+    ensures { masks.new ≡ less_masks (windows_at n at commits.now) (pages_of (commit_at commits.now i).segment) masks.old }
 {
     if !has_segment_at(commits, i) {
         return;
@@ -79,9 +79,9 @@ fn take_away(commits: &[u8], at: usize, n: usize, masks: &mut [u64], i: usize)
 
 // The masks of n windows, one at least, without the pages that the first k commits of the path hold. A commit whose windows lie apart is passed by.
 fn ask_all(commits: &[u8], path: Path, k: usize, at: usize, n: usize, masks: &mut [u64])
-    requires commits_value { (commitsOk commits.now ≡ true) × Inside commits.now (placesIn path.runs) × (k ≤ length (placesIn path.runs)) }
+    requires commits_value { (commits_ok commits.now ≡ true) × Inside commits.now (places_in path.runs) × (k ≤ length (places_in path.runs)) }
     requires n_in_bounds { (at + n * 12 ≤ length commits.now) × (0 < n) × (n ≤ 32) × (rising 0 (windows_at n at commits.now) ≡ true) × (length masks.old ≡ 32) }
-    ensures { masks.new ≡ lessAll (windows_at n at commits.now) (before k (commitsAt commits.now (placesIn path.runs))) masks.old }
+    ensures { masks.new ≡ less_all (windows_at n at commits.now) (before k (commits_at commits.now (places_in path.runs))) masks.old }
 {
     let lo = load32(commits, at);
     let hi = load32(commits, at + (n - 1) * 12);
@@ -112,7 +112,7 @@ fn sort_out(
     left: &mut [u64],
     ask: &mut [u64],
 )
-    requires n_in_bounds { (at + n * 12 ≤ length commits.now) × (n ≤ 32) × (normalForm (windows_at n at commits.now) ≡ true) × (length left.old ≡ 32) × (length ask.old ≡ 32) }
+    requires n_in_bounds { (at + n * 12 ≤ length commits.now) × (n ≤ 32) × (normal_form (windows_at n at commits.now) ≡ true) × (length left.old ≡ 32) × (length ask.old ≡ 32) }
     requires tags_len { (length tags.old ≡ 64) × (length masks.old ≡ 64) × (length marks.old ≡ 64) }
     ensures as_sorted { AsSorted (windows_at n at commits.now) count.0 tags.old masks.old marks.old tags.new masks.new marks.new left.new ask.new }
     ensures small { (Small (windows_at n at commits.now) left.new) × Small (windows_at n at commits.now) ask.new }
@@ -145,10 +145,10 @@ fn ask_rest(
     left: &mut [u64],
     ask: &mut [u64],
 ) -> bool
-    requires commits_value { (commitsOk commits.now ≡ true) × Inside commits.now (placesIn path.runs) × (k ≤ length (placesIn path.runs)) }
+    requires commits_value { (commits_ok commits.now ≡ true) × Inside commits.now (places_in path.runs) × (k ≤ length (places_in path.runs)) }
     requires n_in_bounds { (at + n * 12 ≤ length commits.now) × (0 < n) × (n ≤ 32) × (rising 0 (windows_at n at commits.now) ≡ true) × (length left.old ≡ 32) × (length ask.old ≡ 32) }
-    ensures value { result ≡ not (noMasks n left.new) }
-    ensures left_after { left.new ≡ moreMasks n left.old (lessAll (windows_at n at commits.now) (before k (commitsAt commits.now (placesIn path.runs))) ask.old) }
+    ensures value { result ≡ not (no_masks n left.new) }
+    ensures left_after { left.new ≡ more_masks n left.old (less_all (windows_at n at commits.now) (before k (commits_at commits.now (places_in path.runs))) ask.old) }
 {
     ask_all(commits, path, k, at, n, ask);
     more(left, ask, n);
@@ -167,11 +167,11 @@ fn make_gift(
     marks: &mut [u64],
     left: &mut [u64],
 ) -> bool
-    requires commits_value { (commitsOk commits.now ≡ true) × Inside commits.now (placesIn path.runs) × (i < count_of commits.now) × (k ≤ length (placesIn path.runs)) }
-    requires known { Known (heldBy (before k (commitsAt commits.now (placesIn path.runs)))) tags.old masks.old marks.old × (length left.old ≡ 32) }
-    ensures value { result ≡ not (is_empty (giftOf count.0 (before k (commitsAt commits.now (placesIn path.runs))) (commitAt commits.now i))) }
-    ensures left_after { given (pagesOf (commitAt commits.now i).segment) left.new ≡ giftOf count.0 (before k (commitsAt commits.now (placesIn path.runs))) (commitAt commits.now i) }
-    ensures known_2 { Known (heldBy (commitAt commits.now i ∷ before k (commitsAt commits.now (placesIn path.runs)))) tags.new masks.new marks.new }
+    requires commits_value { (commits_ok commits.now ≡ true) × Inside commits.now (places_in path.runs) × (i < count_of commits.now) × (k ≤ length (places_in path.runs)) }
+    requires known { Known (held_by (before k (commits_at commits.now (places_in path.runs)))) tags.old masks.old marks.old × (length left.old ≡ 32) }
+    ensures value { result ≡ not (is_empty (giftOf count.0 (before k (commits_at commits.now (places_in path.runs))) (commit_at commits.now i))) }
+    ensures left_after { given (pages_of (commit_at commits.now i).segment) left.new ≡ giftOf count.0 (before k (commits_at commits.now (places_in path.runs))) (commit_at commits.now i) }
+    ensures known_2 { Known (held_by (commit_at commits.now i ∷ before k (commits_at commits.now (places_in path.runs)))) tags.new masks.new marks.new }
 {
     if !has_segment_at(commits, i) {
         return false;
@@ -207,11 +207,11 @@ pub fn next_gift(
     marks: &mut [u64],
     left: &mut [u64],
 ) -> Step
-    requires commits_value { (commitsOk commits.now ≡ true) × Inside commits.now (placesIn path.runs) }
-    requires known { Known (heldBy (before from (commitsAt commits.now (placesIn path.runs)))) tags.old masks.old marks.old × (length left.old ≡ 32) }
-    ensures value { result ≡ (stepFrom commits.now count.0 (placesIn path.runs) from).0 }
-    ensures gift_in { GiftIn commits.now result.at left.new (stepFrom commits.now count.0 (placesIn path.runs) from).1 }
-    ensures known_2 { Known (heldBy (before result.next (commitsAt commits.now (placesIn path.runs)))) tags.new masks.new marks.new }
+    requires commits_value { (commits_ok commits.now ≡ true) × Inside commits.now (places_in path.runs) }
+    requires known { Known (held_by (before from (commits_at commits.now (places_in path.runs)))) tags.old masks.old marks.old × (length left.old ≡ 32) }
+    ensures value { result ≡ (step_from commits.now count.0 (places_in path.runs) from).0 }
+    ensures gift_in { GiftIn commits.now result.at left.new (step_from commits.now count.0 (places_in path.runs) from).1 }
+    ensures known_2 { Known (held_by (before result.next (commits_at commits.now (places_in path.runs)))) tags.new masks.new marks.new }
 {
     let mut k = from;
     loop {
@@ -234,9 +234,9 @@ pub fn next_gift(
 
 // The gift of record i, which has a segment, from its masks: as bytes over 385 of a list.
 pub fn put_gift(list: &mut [u8], to: usize, commits: &[u8], i: usize, left: &[u64])
-    requires commits_value { (commitsOk commits.now ≡ true) × (i < count_of commits.now) × (is_some (commitAt commits.now i).segment ≡ true) }
+    requires commits_value { (commits_ok commits.now ≡ true) × (i < count_of commits.now) × (is_some (commit_at commits.now i).segment ≡ true) }
     requires to_in_bounds { (to + 385 ≤ length list.old) × (length left.now ≡ 32) }
-    ensures { list.new ≡ put to (setBytes.spell (given (pagesOf (commitAt commits.now i).segment) left.now)) list.old }
+    ensures { list.new ≡ put to (set_bytes.spell (given (pages_of (commit_at commits.now i).segment) left.now)) list.old }
 {
     let at = row(commits, i) + 79;
     let n = count_read(commits, at, 32);
@@ -245,9 +245,9 @@ pub fn put_gift(list: &mut [u8], to: usize, commits: &[u8], i: usize, left: &[u6
 
 // And as a set by value, where it is in form.
 fn gift_set(commits: &[u8], i: usize, left: &[u64]) -> PageSet
-    requires commits_value { (commitsOk commits.now ≡ true) × (i < count_of commits.now) × (is_some (commitAt commits.now i).segment ≡ true) }
-    requires left_value { (normalForm (given (pagesOf (commitAt commits.now i).segment) left.now) ≡ true) × (length left.now ≡ 32) }
-    ensures { result ≡ setLaid (given (pagesOf (commitAt commits.now i).segment) left.now) }
+    requires commits_value { (commits_ok commits.now ≡ true) × (i < count_of commits.now) × (is_some (commit_at commits.now i).segment ≡ true) }
+    requires left_value { (normal_form (given (pages_of (commit_at commits.now i).segment) left.now) ≡ true) × (length left.now ≡ 32) }
+    ensures { result ≡ set_laid (given (pages_of (commit_at commits.now i).segment) left.now) }
 {
     let mut form = [0u8; 385];
     put_gift(&mut form, 0, commits, i, left);
@@ -264,10 +264,10 @@ pub fn next_set(
     masks: &mut [u64],
     marks: &mut [u64],
 ) -> Found
-    requires commits_value { (commitsOk commits.now ≡ true) × Inside commits.now (placesIn path.runs) }
-    requires known { Known (heldBy (before from (commitsAt commits.now (placesIn path.runs)))) tags.old masks.old marks.old }
-    ensures value { result ≡ found_from commits.now count.0 (placesIn path.runs) from }
-    ensures known_2 { Known (heldBy (before result.next (commitsAt commits.now (placesIn path.runs)))) tags.new masks.new marks.new }
+    requires commits_value { (commits_ok commits.now ≡ true) × Inside commits.now (places_in path.runs) }
+    requires known { Known (held_by (before from (commits_at commits.now (places_in path.runs)))) tags.old masks.old marks.old }
+    ensures value { result ≡ found_from commits.now count.0 (places_in path.runs) from }
+    ensures known_2 { Known (held_by (before result.next (commits_at commits.now (places_in path.runs)))) tags.new masks.new marks.new }
 {
     let mut left = [0u64; 32];
     let step = next_gift(commits, path, count, from, tags, masks, marks, &mut left);

@@ -1,8 +1,8 @@
 // The commits of a snapshot's path as places in the table of commits: a run of places for each range, in path order.
-ghost use Rattle.core.specs.Prelude.{◌≡◌, ◌-◌, ◌≤◌, true, length, nat_le};
-ghost use Rattle.layout.specs.Tables.{commitsOk};
-ghost use Rattle.volume.specs.Snapshots.{snapshotSays};
-ghost use Rattle.gifts.specs.Paths.{placesIn, placeAt, PathOf};
+ghost use Rattle.std.specs.Prelude.{◌≡◌, ◌-◌, ◌≤◌, true, length, nat_le};
+ghost use Rattle.layout.specs.Tables.{commits_ok};
+ghost use Rattle.volume.specs.Snapshots.{snapshot_says};
+ghost use Rattle.gifts.specs.Paths.{places_in, place_at, PathOf};
 
 use commits::{Place, range_run};
 use table::Run;
@@ -16,8 +16,8 @@ pub struct Path {
 
 // Where the commits of a snapshot stand, range by range.
 pub fn path_of(commits: &[u8], s: Snapshot) -> Path
-    requires { (commitsOk commits.now ≡ true) × (s.len ≤ 8) }
-    ensures { PathOf commits.now (snapshotSays s).path result.runs }
+    requires { (commits_ok commits.now ≡ true) × (s.len ≤ 8) }
+    ensures { PathOf commits.now (snapshot_says s).path result.runs }
 {
     let n = s.len;
     let ranges = s.path;
@@ -45,7 +45,7 @@ fn run_size(run: Run) -> usize
 
 // The place of the path's commit of a number, counted from 0, or none.
 pub fn place_at(path: Path, k: usize) -> Place
-    ensures { result ≡ placeAt k (placesIn path.runs) }
+    ensures { result ≡ place_at k (places_in path.runs) }
 {
     let runs = path.runs;
     let mut left = k;
@@ -64,7 +64,7 @@ pub fn place_at(path: Path, k: usize) -> Place
 
 // Whether a path has at most so many commits.
 pub fn at_most(path: Path, slots: usize) -> bool
-    ensures { result ≡ nat_le (length (placesIn path.runs)) slots }
+    ensures { result ≡ nat_le (length (places_in path.runs)) slots }
 {
     let runs = path.runs;
     let mut left = slots;

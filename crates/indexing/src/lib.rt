@@ -2,19 +2,19 @@
 // down, so that no buffer holds them all. And a checkpoint for each LSN that it lists, at most eight, in any order and with repeats.
 ghost use Rattle.std.specs.Prelude.{◌≡◌, ◌≤◌, true};
 ghost use Rattle.pageset.specs.Sets.{shown, normal};
-ghost use Rattle.table.specs.Table.{runs, recs, laid, wellOrdered, fits};
+ghost use Rattle.table.specs.Table.{runs, recs, laid, well_ordered, fits};
 ghost use Rattle.batch.specs.Batch.{put_all, news};
-ghost use Rattle.indexing.specs.Rows.{withPage, entry_rows, listed, checkpointRows};
+ghost use Rattle.indexing.specs.Rows.{with_page, entry_rows, listed, checkpoint_rows};
 
-use core::id::LogId;
-use core::lsn::Lsn;
-use core::pageidx::PageIdx;
+use basics::id::LogId;
+use basics::lsn::Lsn;
+use basics::pageidx::PageIdx;
 use layout::{CHECKPOINT, ENTRY};
 use pageset::{PageSet, Window, sets};
 
 // The index entry of a page, made from that of another.
 fn with_page(row: [u8; 29], page: u32) -> [u8; 29]
-    ensures { result ≡ withPage row page }
+    ensures { result ≡ with_page row page }
 {
     let mut e = row;
     octets::store32(&mut e, 17, page);
@@ -23,7 +23,7 @@ fn with_page(row: [u8; 29], page: u32) -> [u8; 29]
 
 // How many of the entries have a key that the index t lacks: each is sought below the place of the one before.
 pub fn count_entries(t: &[u8], log: LogId, lsn: Lsn, set: PageSet) -> usize
-    requires t_value { wellOrdered 29 29 t.now ≡ true }
+    requires t_value { well_ordered 29 29 t.now ≡ true }
     requires set_value { normal set ≡ true }
     ensures { result ≡ news 29 (entry_rows log lsn.0 (shown set)) (recs 29 t.now) }
 {
@@ -49,7 +49,7 @@ pub fn count_entries(t: &[u8], log: LogId, lsn: Lsn, set: PageSet) -> usize
 
 // The entries put into the index t by one merge from the back; `fresh` of their keys are new.
 pub fn put_entries(t: &mut [u8], log: LogId, lsn: Lsn, set: PageSet, fresh: usize)
-    requires t_value { wellOrdered 29 29 t.old ≡ true }
+    requires t_value { well_ordered 29 29 t.old ≡ true }
     requires set_value { normal set ≡ true }
     requires fresh_value { fresh ≡ news 29 (entry_rows log lsn.0 (shown set)) (recs 29 t.old) }
     requires t_value_2 { fits 29 (put_all 29 (entry_rows log lsn.0 (shown set)) (recs 29 t.old)) t.old ≡ true }
@@ -79,7 +79,7 @@ pub fn put_entries(t: &mut [u8], log: LogId, lsn: Lsn, set: PageSet, fresh: usiz
 // The checkpoints at the first n of eight LSNs, one after another.
 fn checkpoint_rows(log: LogId, lsns: [Lsn; 8], n: usize) -> [u8; 200]
     requires { n ≤ 8 }
-    ensures { runs n 25 0 result ≡ checkpointRows log (listed lsns n) }
+    ensures { runs n 25 0 result ≡ checkpoint_rows log (listed lsns n) }
 {
     let mut rows = [0u8; 200];
     let mut i: usize = 0;
@@ -94,9 +94,9 @@ fn checkpoint_rows(log: LogId, lsns: [Lsn; 8], n: usize) -> [u8; 200]
 
 // How many distinct keys of the checkpoints the table t lacks.
 pub fn count_checkpoints(t: &[u8], log: LogId, lsns: [Lsn; 8], n: usize) -> usize
-    requires t_value { wellOrdered 25 25 t.now ≡ true }
+    requires t_value { well_ordered 25 25 t.now ≡ true }
     requires n_bound { n ≤ 8 }
-    ensures { result ≡ news 25 (checkpointRows log (listed lsns n)) (recs 25 t.now) }
+    ensures { result ≡ news 25 (checkpoint_rows log (listed lsns n)) (recs 25 t.now) }
 {
     let rows = checkpoint_rows(log, lsns, n);
     batch::count_new(t, CHECKPOINT, CHECKPOINT, &rows, n)
@@ -104,10 +104,10 @@ pub fn count_checkpoints(t: &[u8], log: LogId, lsns: [Lsn; 8], n: usize) -> usiz
 
 // The checkpoints put into the table t.
 pub fn put_checkpoints(t: &mut [u8], log: LogId, lsns: [Lsn; 8], n: usize)
-    requires t_value { wellOrdered 25 25 t.old ≡ true }
+    requires t_value { well_ordered 25 25 t.old ≡ true }
     requires n_bound { n ≤ 8 }
-    requires t_value_2 { fits 25 (put_all 25 (checkpointRows log (listed lsns n)) (recs 25 t.old)) t.old ≡ true }
-    ensures { t.new ≡ laid (put_all 25 (checkpointRows log (listed lsns n)) (recs 25 t.old)) t.old }
+    requires t_value_2 { fits 25 (put_all 25 (checkpoint_rows log (listed lsns n)) (recs 25 t.old)) t.old ≡ true }
+    ensures { t.new ≡ laid (put_all 25 (checkpoint_rows log (listed lsns n)) (recs 25 t.old)) t.old }
 {
     let rows = checkpoint_rows(log, lsns, n);
     batch::put_all(t, CHECKPOINT, CHECKPOINT, &rows, n);

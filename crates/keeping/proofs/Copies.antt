@@ -1,92 +1,92 @@
 -- The law over the two copies: what their contracts' answers say, check by check, to the rules'.
 use Rattle.std.proofs.Common.{◌≡◌, ℕ, true, List, ap, ◌∙◌, subst}
 use mathlib.Core.Option.{some}
-use Rattle.std.specs.Answers.{Answer, done}
+use Rattle.basics.specs.Answers.{Answer, done}
 use Rattle.rules.specs.Records.{Id, Volume}
 use Rattle.rules.specs.Tables.{Table}
 use Rattle.rules.specs.Write.{Logs}
 use Rattle.rules.specs.Open.{Ids}
 use Rattle.rules.specs.Demand.{NoPageLost}
-use Rattle.rules.specs.Copies.{fromSnapshot}
-use Rattle.rules.specs.Calls.{Tables, Change, copying, copyingRef, does, outcome, withLogs, withVolumes, typed, idsTyped}
-use Rattle.rules.proofs.TableLaws.{and-fst, and-snd}
-use Rattle.rules.proofs.AnswerLaws.{done-same, gotten}
-use Rattle.layout.specs.Tables.{volumesIn, volumesOk}
+use Rattle.rules.specs.Copies.{from_snapshot}
+use Rattle.rules.specs.Calls.{Tables, Change, copying, copying_ref, does, outcome, with_logs, with_volumes, typed, ids_typed}
+use Rattle.rules.proofs.TableLaws.{and_fst, and_snd}
+use Rattle.rules.proofs.AnswerLaws.{done_same, gotten}
+use Rattle.layout.specs.Tables.{volumes_in, volumes_ok}
 use Rattle.arguments.specs.declared.Reply.{Reply}
-use Rattle.arguments.specs.Snapshots.{snapshotIn}
-use Rattle.writecalls.specs.Written.{logsIn, logsOk}
-use Rattle.copycalls.specs.Making.{Made, made, copyOk, argumentsIn, snapshotOn, logrefIn, logrefOn, Leaves}
+use Rattle.arguments.specs.Snapshots.{snapshot_in}
+use Rattle.writecalls.specs.Written.{logs_in, logs_ok}
+use Rattle.copycalls.specs.Making.{Made, made, copy_ok, arguments_in, snapshot_on, logref_in, logref_on, Leaves}
 use Rattle.keeping.specs.Frame.{Keeps}
-use Rattle.keeping.specs.Holding.{volumesAndLogs}
+use Rattle.keeping.specs.Holding.{volumes_and_logs}
 use Rattle.keeping.specs.Stays.{StaysFormed, LogsStayFormed, StaysExact}
-use Rattle.keeping.proofs.Rooms.{BothRooms, from-snapshot-rooms, from-logref-rooms}
-use Rattle.keeping.proofs.Losing.{snapshot-lossless, logref-lossless}
-use Rattle.keeping.proofs.Stored.{follows-keeps, follows-lossless, Ruled, both-kept}
-use Rattle.keeping.proofs.Writes.{lent-done, after-asking}
+use Rattle.keeping.proofs.Rooms.{BothRooms, from_snapshot_rooms, from_logref_rooms}
+use Rattle.keeping.proofs.Losing.{snapshot_lossless, logref_lossless}
+use Rattle.keeping.proofs.Stored.{follows_keeps, follows_lossless, Ruled, both_kept}
+use Rattle.keeping.proofs.Writes.{lent_done, after_asking}
 
-module _ (vs cs ks es out vs' cs' ks' es' out' : List ℕ) (x : Ids) (types : idsTyped x ≡ true) (r : Reply) where
+module _ (vs cs ks es out vs' cs' ks' es' out' : List ℕ) (x : Ids) (types : ids_typed x ≡ true) (r : Reply) where
   abbrev was : Tables
-  was = volumesAndLogs (volumesIn vs) (logsIn cs ks es)
+  was = volumes_and_logs (volumes_in vs) (logs_in cs ks es)
 
   abbrev left : Tables
-  left = volumesAndLogs (volumesIn vs') (logsIn cs' ks' es')
+  left = volumes_and_logs (volumes_in vs') (logs_in cs' ks' es')
 
   -- what is said of both: the frame, all that is formed, and the exact index
   abbrev pub Copied : Change → Type 0
-  Copied c = Keeps was c left × (StaysFormed volumesOk vs vs' × (LogsStayFormed cs ks es cs' ks' es' × StaysExact cs es cs' es'))
+  Copied c = Keeps was c left × (StaysFormed volumes_ok vs vs' × (LogsStayFormed cs ks es cs' ks' es' × StaysExact cs es cs' es'))
 
   -- a is the answer, and l what the call leaves
   module _ (a : Answer Made) (l : Leaves vs cs ks es out a r vs' cs' ks' es' out') (c : Change) where
     abbrev RuledCopy : Made → Type 0
-    RuledCopy m = Ruled a (λ (q : Made). q.2) cs ks es cs' ks' es' l.ofCommits l.ofCheckpoints l.ofIndex (λ (q : Made). q.1) vs vs' l.ofVolumes c m
+    RuledCopy m = Ruled a (λ (q : Made). q.2) cs ks es cs' ks' es' l.of_commits l.of_checkpoints l.of_index (λ (q : Made). q.1) vs vs' l.of_volumes c m
 
-    by-law : ((m : Made) → a ≡ done m → RuledCopy m) → NoPageLost was.logs.commits (does was c).1.logs.commits → Copied c
-    by-law rule lost =
-        let k = both-kept a (λ (q : Made). q.2) cs ks es cs' ks' es' l.ofCommits l.ofCheckpoints l.ofIndex (λ (q : Made). q.1) vs vs' l.ofVolumes c rule in
-        (follows-keeps was c left k.follows, (k.volumes-still, (k.formed-still, follows-lossless was c left k.follows lost)))
+    by_law : ((m : Made) → a ≡ done m → RuledCopy m) → NoPageLost was.logs.commits (does was c).1.logs.commits → Copied c
+    by_law rule lost =
+        let k = both_kept a (λ (q : Made). q.2) cs ks es cs' ks' es' l.of_commits l.of_checkpoints l.of_index (λ (q : Made). q.1) vs vs' l.of_volumes c rule in
+        (follows_keeps was c left k.follows, (k.volumes_still, (k.formed_still, follows_lossless was c left k.follows lost)))
 
   -- ---- volume from snapshot
 
-  module _ (b : List ℕ) (place : ℕ) (l : Leaves vs cs ks es out (snapshotOn vs cs ks es b x place) r vs' cs' ks' es' out') where
-    abbrev from-b : Change
-    from-b = copying (snapshotIn b) x
+  module _ (b : List ℕ) (place : ℕ) (l : Leaves vs cs ks es out (snapshot_on vs cs ks es b x place) r vs' cs' ks' es' out') where
+    abbrev from_b : Change
+    from_b = copying (snapshot_in b) x
 
-    snapshot-ruled : (m : Made) → snapshotOn vs cs ks es b x place ≡ done m → RuledCopy (snapshotOn vs cs ks es b x place) l from-b m
-    unfolding snapshotOn copyOk made does typed
-    snapshot-ruled m e =
-        lent-done (copyOk vs cs ks es) _ e λ ok e1.
-        after-asking (argumentsIn b place) _ e1 λ args e2.
-        gotten (fromSnapshot (volumesIn vs) (logsIn cs ks es) (snapshotIn b) x) _ e2 λ q k e3.
-        let s : ◌≡◌ {A = Made} (some q.0, q.1, q.2) m = done-same e3 in
+    snapshot_ruled : (m : Made) → snapshot_on vs cs ks es b x place ≡ done m → RuledCopy (snapshot_on vs cs ks es b x place) l from_b m
+    unfolding snapshot_on copy_ok made does typed
+    snapshot_ruled m e =
+        lent_done (copy_ok vs cs ks es) _ e λ ok e1.
+        after_asking (arguments_in b place) _ e1 λ args e2.
+        gotten (from_snapshot (volumes_in vs) (logs_in cs ks es) (snapshot_in b) x) _ e2 λ q k e3.
+        let s : ◌≡◌ {A = Made} (some q.0, q.1, q.2) m = done_same e3 in
         record {
-          volumes-formed = and-fst (volumesOk vs) (logsOk cs ks es) ok;
-          lent-formed = and-snd (volumesOk vs) (logsOk cs ks es) ok;
+          volumes_formed_lem = and_fst (volumes_ok vs) (logs_ok cs ks es) ok;
+          lent_formed = and_snd (volumes_ok vs) (logs_ok cs ks es) ok;
           types = types;
-          is = ap (λ (y : Answer (Volume × Table Volume × Logs)). (outcome was y (λ z. withLogs (withVolumes was z.1) z.2)).1) k ∙ (λ i. volumesAndLogs (s i).1 (s i).2);
-          rooms = subst (λ (y : Made). BothRooms (volumesIn vs) (logsIn cs ks es) (y.1, y.2)) s (from-snapshot-rooms (volumesIn vs) (logsIn cs ks es) (snapshotIn b) x q k);
+          is = ap (λ (y : Answer (Volume × Table Volume × Logs)). (outcome was y (λ z. with_logs (with_volumes was z.1) z.2)).1) k ∙ (λ i. volumes_and_logs (s i).1 (s i).2);
+          rooms = subst (λ (y : Made). BothRooms (volumes_in vs) (logs_in cs ks es) (y.1, y.2)) s (from_snapshot_rooms (volumes_in vs) (logs_in cs ks es) (snapshot_in b) x q k);
         }
 
-    pub snapshot-keeps : Copied from-b
-    snapshot-keeps = by-law (snapshotOn vs cs ks es b x place) l from-b snapshot-ruled (snapshot-lossless was (snapshotIn b) x)
+    pub snapshot_keeps : Copied from_b
+    snapshot_keeps = by_law (snapshot_on vs cs ks es b x place) l from_b snapshot_ruled (snapshot_lossless was (snapshot_in b) x)
 
   -- ---- volume from a logref
 
-  module _ (log : Id) (lsn place : ℕ) (l : Leaves vs cs ks es out (logrefOn vs cs ks es log lsn x place) r vs' cs' ks' es' out') where
-    abbrev from-log : Change
-    from-log = copyingRef log lsn x
+  module _ (log : Id) (lsn place : ℕ) (l : Leaves vs cs ks es out (logref_on vs cs ks es log lsn x place) r vs' cs' ks' es' out') where
+    abbrev from_log : Change
+    from_log = copying_ref log lsn x
 
-    logref-ruled : (m : Made) → logrefOn vs cs ks es log lsn x place ≡ done m → RuledCopy (logrefOn vs cs ks es log lsn x place) l from-log m
-    unfolding logrefOn copyOk does typed
-    logref-ruled m e =
-        lent-done (copyOk vs cs ks es) _ e λ ok e1.
-        after-asking (logrefIn lsn place) _ e1 λ args e2.
+    logref_ruled : (m : Made) → logref_on vs cs ks es log lsn x place ≡ done m → RuledCopy (logref_on vs cs ks es log lsn x place) l from_log m
+    unfolding logref_on copy_ok does typed
+    logref_ruled m e =
+        lent_done (copy_ok vs cs ks es) _ e λ ok e1.
+        after_asking (logref_in lsn place) _ e1 λ args e2.
         record {
-          volumes-formed = and-fst (volumesOk vs) (logsOk cs ks es) ok;
-          lent-formed = and-snd (volumesOk vs) (logsOk cs ks es) ok;
+          volumes_formed_lem = and_fst (volumes_ok vs) (logs_ok cs ks es) ok;
+          lent_formed = and_snd (volumes_ok vs) (logs_ok cs ks es) ok;
           types = types;
-          is = ap (λ (y : Answer Made). (outcome was y (λ z. withLogs (withVolumes was z.1) z.2)).1) e2;
-          rooms = from-logref-rooms (volumesIn vs) (logsIn cs ks es) log lsn x m e2;
+          is = ap (λ (y : Answer Made). (outcome was y (λ z. with_logs (with_volumes was z.1) z.2)).1) e2;
+          rooms = from_logref_rooms (volumes_in vs) (logs_in cs ks es) log lsn x m e2;
         }
 
-    pub logref-keeps : Copied from-log
-    logref-keeps = by-law (logrefOn vs cs ks es log lsn x place) l from-log logref-ruled (logref-lossless was log lsn x)
+    pub logref_keeps : Copied from_log
+    logref_keeps = by_law (logref_on vs cs ks es log lsn x place) l from_log logref_ruled (logref_lossless was log lsn x)

@@ -2,145 +2,145 @@
 use Rattle.std.proofs.Common.{◌≡◌, ℕ, ◌≤◌, Bool, true, not, ◌&&◌, leb, List, length, sym, refl, ap, ◌∙◌, eq-eqb, le-leb}
 use mathlib.Core.Option.{Option, none, some}
 use Rattle.octets.specs.Bytes.{AreBytes}
-use Rattle.std.specs.Answers.{done}
-use Rattle.std.specs.Int.{counts, lastLsn, lastPage}
-use Rattle.std.specs.Hashes.{is_zero}
-use Rattle.std.specs.Orders.{bytes, sidPage}
+use Rattle.basics.specs.Answers.{done}
+use Rattle.basics.specs.Numbers.{counts, last_lsn, last_page}
+use Rattle.basics.specs.Hashes.{is_zero}
+use Rattle.basics.specs.Orders.{bytes, sid_page}
 use Rattle.rules.specs.Lists.{is_none, all}
-use Rattle.rules.specs.Records.{Id, Name, Commit, Pending, Volume, Present, Tag, presentKey, tagKey}
-use Rattle.rules.specs.Forms.{bytesForm, nameLength}
-use Rattle.rules.specs.Tables.{Table, fits, store, formed, inOrder, volumesFormed, commitsFormed, presenceFormed, tagsFormed, getVolume, latestLsn}
-use Rattle.rules.specs.Write.{logsFormed}
-use Rattle.rules.specs.Snapshots.{below, watermarkOf, remoteOf}
-use Rattle.rules.specs.Push.{isBefore, prepare, dropPending}
-use Rattle.rules.specs.Sync.{changed, notOlder, syncBy, sync}
-use Rattle.rules.specs.Reads.{volumeDelete, pageMark, pageRemove, pagesRemove, tagDelete, tagReplace}
-use Rattle.rules.specs.Calls.{preparing, marking, replacingTag, empty, wellFormed, typed}
-use Rattle.rules.proofs.TableLaws.{and-fst, and-snd, and_both}
-use Rattle.rules.proofs.AnswerLaws.{done-same, asked, needed, gotten}
-use Rattle.layout.proofs.PlaceLaws.{all-bytes}
+use Rattle.rules.specs.Records.{Id, Name, Commit, Pending, Volume, Present, Tag, present_key, tag_key}
+use Rattle.rules.specs.Forms.{bytes_form, name_length}
+use Rattle.rules.specs.Tables.{Table, fits, store, formed, in_order, volumes_formed, commits_formed, presence_formed, tags_formed, get_volume, latest_lsn}
+use Rattle.rules.specs.Write.{logs_formed}
+use Rattle.rules.specs.Snapshots.{below, watermark_of, remote_of}
+use Rattle.rules.specs.Push.{is_before, prepare, drop_pending}
+use Rattle.rules.specs.Sync.{changed, not_older, sync_by, sync}
+use Rattle.rules.specs.Reads.{volume_delete, page_mark, page_remove, pages_remove, tag_delete, tag_replace}
+use Rattle.rules.specs.Calls.{preparing, marking, replacing_tag, empty, well_formed, typed}
+use Rattle.rules.proofs.TableLaws.{and_fst, and_snd, and_both}
+use Rattle.rules.proofs.AnswerLaws.{done_same, asked, needed, gotten}
+use Rattle.layout.proofs.PlaceLaws.{all_bytes}
 use Rattle.keeping.specs.Holding.{holding}
 
 -- ---- room stays
 
-pub delete-room : (vs : Table Volume) (vid : Id) (w : Table Volume) → volumeDelete vs vid ≡ done w → w.room ≡ vs.room
-unfolding volumeDelete
-delete-room vs vid w e = asked (volumesFormed vs) 20 _ e λ f e1. sym (ap (λ (x : Table Volume). x.room) (done-same e1))
+pub delete_room : (vs : Table Volume) (vid : Id) (w : Table Volume) → volume_delete vs vid ≡ done w → w.room ≡ vs.room
+unfolding volume_delete
+delete_room vs vid w e = asked (volumes_formed vs) 20 _ e λ f e1. sym (ap (λ (x : Table Volume). x.room) (done_same e1))
 
-pub drop-room : (vs : Table Volume) (vid : Id) (w : Table Volume) → dropPending vs vid ≡ done w → w.room ≡ vs.room
-unfolding dropPending
-drop-room vs vid w e =
-    asked (volumesFormed vs) 20 _ e λ f e1.
-    needed (getVolume vs vid) 4 _ e1 λ v is e2. sym (ap (λ (x : Table Volume). x.room) (done-same e2))
+pub drop_room : (vs : Table Volume) (vid : Id) (w : Table Volume) → drop_pending vs vid ≡ done w → w.room ≡ vs.room
+unfolding drop_pending
+drop_room vs vid w e =
+    asked (volumes_formed vs) 20 _ e λ f e1.
+    needed (get_volume vs vid) 4 _ e1 λ v is e2. sym (ap (λ (x : Table Volume). x.room) (done_same e2))
 
-pub prepare-room : (vs : Table Volume) (cs : Table Commit) (vid : Id) (p : Pending) (w : Table Volume) → prepare vs cs vid p ≡ done w → w.room ≡ vs.room
+pub prepare_room : (vs : Table Volume) (cs : Table Commit) (vid : Id) (p : Pending) (w : Table Volume) → prepare vs cs vid p ≡ done w → w.room ≡ vs.room
 unfolding prepare
-prepare-room vs cs vid p w e =
-    asked (volumesFormed vs && commitsFormed cs) 20 _ e λ f e1.
+prepare_room vs cs vid p w e =
+    asked (volumes_formed vs && commits_formed cs) 20 _ e λ f e1.
     asked (counts p.local && counts p.commit) 1 _ e1 λ one e2.
-    needed (getVolume vs vid) 4 _ e2 λ v is e3.
+    needed (get_volume vs vid) 4 _ e2 λ v is e3.
     asked (is_none v.pending) 9 _ e3 λ a e4.
-    asked (below (watermarkOf v.sync) p.local) 11 _ e4 λ b e5.
-    asked (isBefore (latestLsn cs v.remote) p.commit) 12 _ e5 λ c e6.
-    asked (not (is_zero p.hash)) 13 _ e6 λ d e7. sym (ap (λ (x : Table Volume). x.room) (done-same e7))
+    asked (below (watermark_of v.sync) p.local) 11 _ e4 λ b e5.
+    asked (is_before (latest_lsn cs v.remote) p.commit) 12 _ e5 λ c e6.
+    asked (not (is_zero p.hash)) 13 _ e6 λ d e7. sym (ap (λ (x : Table Volume). x.room) (done_same e7))
 
-pub sync-room : (vs : Table Volume) (cs : Table Commit) (vid : Id) (w : Table Volume) → sync vs cs vid ≡ done w → w.room ≡ vs.room
+pub sync_room : (vs : Table Volume) (cs : Table Commit) (vid : Id) (w : Table Volume) → sync vs cs vid ≡ done w → w.room ≡ vs.room
 unfolding sync
-sync-room vs cs vid w e =
-    asked (volumesFormed vs && commitsFormed cs) 20 _ e λ f e1.
-    needed (getVolume vs vid) 4 _ e1 λ v is e2.
-    gotten (changed (remoteOf v.sync) (latestLsn cs v.remote)) _ e2 λ o q e3. by v o e3
+sync_room vs cs vid w e =
+    asked (volumes_formed vs && commits_formed cs) 20 _ e λ f e1.
+    needed (get_volume vs vid) 4 _ e1 λ v is e2.
+    gotten (changed (remote_of v.sync) (latest_lsn cs v.remote)) _ e2 λ o q e3. by v o e3
   where
-    by : (v : Volume) (o : Option (ℕ × ℕ)) → syncBy vs cs v o ≡ done w → w.room ≡ vs.room
-    by v none z = sym (ap (λ (x : Table Volume). x.room) (done-same z))
+    by : (v : Volume) (o : Option (ℕ × ℕ)) → sync_by vs cs v o ≡ done w → w.room ≡ vs.room
+    by v none z = sym (ap (λ (x : Table Volume). x.room) (done_same z))
     by v (some r) z =
-        gotten (changed (watermarkOf v.sync) (latestLsn cs v.local)) _ z λ here k z1.
+        gotten (changed (watermark_of v.sync) (latest_lsn cs v.local)) _ z λ here k z1.
         asked (is_none here) 8 _ z1 λ even z2.
-        asked (notOlder (remoteOf v.sync) r.1) 17 _ z2 λ not-old z3. sym (ap (λ (x : Table Volume). x.room) (done-same z3))
+        asked (not_older (remote_of v.sync) r.1) 17 _ z2 λ not_old z3. sym (ap (λ (x : Table Volume). x.room) (done_same z3))
 
-pub mark-room : (ps : Table Present) (sid : Id) (page : ℕ) (w : Table Present) → pageMark ps sid page ≡ done w → w.room ≡ ps.room
-unfolding pageMark
-mark-room ps sid page w e =
-    asked (presenceFormed ps) 20 _ e λ f e1.
+pub mark_room : (ps : Table Present) (sid : Id) (page : ℕ) (w : Table Present) → page_mark ps sid page ≡ done w → w.room ≡ ps.room
+unfolding page_mark
+mark_room ps sid page w e =
+    asked (presence_formed ps) 20 _ e λ f e1.
     asked (counts page) 1 _ e1 λ one e2.
-    asked (fits (store presentKey sidPage (record { sid = sid; page = page }) ps)) 19 _ e2 λ room e3. sym (ap (λ (x : Table Present). x.room) (done-same e3))
+    asked (fits (store present_key sid_page (record { sid = sid; page = page }) ps)) 19 _ e2 λ room e3. sym (ap (λ (x : Table Present). x.room) (done_same e3))
 
-pub unmark-room : (ps : Table Present) (sid : Id) (page : ℕ) (w : Table Present) → pageRemove ps sid page ≡ done w → w.room ≡ ps.room
-unfolding pageRemove
-unmark-room ps sid page w e =
-    asked (presenceFormed ps) 20 _ e λ f e1.
-    asked (counts page) 1 _ e1 λ one e2. sym (ap (λ (x : Table Present). x.room) (done-same e2))
+pub unmark_room : (ps : Table Present) (sid : Id) (page : ℕ) (w : Table Present) → page_remove ps sid page ≡ done w → w.room ≡ ps.room
+unfolding page_remove
+unmark_room ps sid page w e =
+    asked (presence_formed ps) 20 _ e λ f e1.
+    asked (counts page) 1 _ e1 λ one e2. sym (ap (λ (x : Table Present). x.room) (done_same e2))
 
-pub unmark-all-room : (ps : Table Present) (sid : Id) (a b : ℕ) (w : Table Present) → pagesRemove ps sid a b ≡ done w → w.room ≡ ps.room
-unfolding pagesRemove
-unmark-all-room ps sid a b w e =
-    asked (presenceFormed ps) 20 _ e λ f e1.
+pub unmark_all_room : (ps : Table Present) (sid : Id) (a b : ℕ) (w : Table Present) → pages_remove ps sid a b ≡ done w → w.room ≡ ps.room
+unfolding pages_remove
+unmark_all_room ps sid a b w e =
+    asked (presence_formed ps) 20 _ e λ f e1.
     asked (counts a && counts b) 1 _ e1 λ one e2.
-    asked (leb a b) 2 _ e2 λ two e3. sym (ap (λ (x : Table Present). x.room) (done-same e3))
+    asked (leb a b) 2 _ e2 λ two e3. sym (ap (λ (x : Table Present). x.room) (done_same e3))
 
-pub delete-tag-room : (gs : Table Tag) (name : Name) (w : Table Tag) → tagDelete gs name ≡ done w → w.room ≡ gs.room
-unfolding tagDelete
-delete-tag-room gs name w e =
-    asked (tagsFormed gs) 20 _ e λ f e1.
-    asked (nameLength name) 1 _ e1 λ one e2. sym (ap (λ (x : Table Tag). x.room) (done-same e2))
+pub delete_tag_room : (gs : Table Tag) (name : Name) (w : Table Tag) → tag_delete gs name ≡ done w → w.room ≡ gs.room
+unfolding tag_delete
+delete_tag_room gs name w e =
+    asked (tags_formed gs) 20 _ e λ f e1.
+    asked (name_length name) 1 _ e1 λ one e2. sym (ap (λ (x : Table Tag). x.room) (done_same e2))
 
-pub replace-tag-room : (gs : Table Tag) (name : Name) (vid : Id) (w : Option Id × Table Tag) → tagReplace gs name vid ≡ done w → w.1.room ≡ gs.room
-unfolding tagReplace
-replace-tag-room gs name vid w e =
-    asked (tagsFormed gs) 20 _ e λ f e1.
-    asked (nameLength name) 1 _ e1 λ one e2.
-    asked (fits (store tagKey bytes (record { name = name; vid = vid }) gs)) 19 _ e2 λ room e3. sym (ap (λ (x : Option Id × Table Tag). x.1.room) (done-same e3))
+pub replace_tag_room : (gs : Table Tag) (name : Name) (vid : Id) (w : Option Id × Table Tag) → tag_replace gs name vid ≡ done w → w.1.room ≡ gs.room
+unfolding tag_replace
+replace_tag_room gs name vid w e =
+    asked (tags_formed gs) 20 _ e λ f e1.
+    asked (name_length name) 1 _ e1 λ one e2.
+    asked (fits (store tag_key bytes (record { name = name; vid = vid }) gs)) 19 _ e2 λ room e3. sym (ap (λ (x : Option Id × Table Tag). x.1.room) (done_same e3))
 
 -- ---- the six tables are well formed just where the lent ones are
 
 module _ (vs : Table Volume) (cs : Table Commit) (ps : Table Present) (gs : Table Tag) where
-  pub well-of : volumesFormed vs ≡ true → commitsFormed cs ≡ true → presenceFormed ps ≡ true → tagsFormed gs ≡ true → wellFormed (holding vs cs ps gs) ≡ true
-  unfolding wellFormed logsFormed formed fits inOrder all
-  well-of v c p g = and_both (and_both (and_both v (and_both (and_both c refl) refl)) p) g
+  pub well_of : volumes_formed vs ≡ true → commits_formed cs ≡ true → presence_formed ps ≡ true → tags_formed gs ≡ true → well_formed (holding vs cs ps gs) ≡ true
+  unfolding well_formed logs_formed formed fits in_order all
+  well_of v c p g = and_both (and_both (and_both v (and_both (and_both c refl) refl)) p) g
 
-  pub volumes-of : wellFormed (holding vs cs ps gs) ≡ true → volumesFormed vs ≡ true
-  unfolding wellFormed
-  volumes-of w = search (and-fst, and-snd)
+  pub volumes_of : well_formed (holding vs cs ps gs) ≡ true → volumes_formed vs ≡ true
+  unfolding well_formed
+  volumes_of w = search (and_fst, and_snd)
 
-  pub presence-of : wellFormed (holding vs cs ps gs) ≡ true → presenceFormed ps ≡ true
-  unfolding wellFormed
-  presence-of w = search (and-fst, and-snd)
+  pub presence_of_lem : well_formed (holding vs cs ps gs) ≡ true → presence_formed ps ≡ true
+  unfolding well_formed
+  presence_of_lem w = search (and_fst, and_snd)
 
-  pub tags-of : wellFormed (holding vs cs ps gs) ≡ true → tagsFormed gs ≡ true
-  unfolding wellFormed
-  tags-of w = search (and-fst, and-snd)
+  pub tags_of : well_formed (holding vs cs ps gs) ≡ true → tags_formed gs ≡ true
+  unfolding well_formed
+  tags_of w = search (and_fst, and_snd)
 
 -- an empty table is formed
-pub no-volumes : volumesFormed (empty 0) ≡ true
-unfolding formed fits inOrder all
-no-volumes = refl
+pub no_volumes : volumes_formed (empty 0) ≡ true
+unfolding formed fits in_order all
+no_volumes = refl
 
-pub no-commits : commitsFormed (empty 0) ≡ true
-unfolding formed fits inOrder all
-no-commits = refl
+pub no_commits : commits_formed (empty 0) ≡ true
+unfolding formed fits in_order all
+no_commits = refl
 
-pub no-presence : presenceFormed (empty 0) ≡ true
-unfolding formed fits inOrder all
-no-presence = refl
+pub no_presence : presence_formed (empty 0) ≡ true
+unfolding formed fits in_order all
+no_presence = refl
 
-pub no-tags : tagsFormed (empty 0) ≡ true
-unfolding formed fits inOrder all
-no-tags = refl
+pub no_tags : tags_formed (empty 0) ≡ true
+unfolding formed fits in_order all
+no_tags = refl
 
 -- ---- what the types of the arguments ensure
 
-bytes_good : (n : ℕ) (b : List ℕ) → length b ≡ n → AreBytes b → bytesForm n b ≡ true
-unfolding bytesForm
-bytes_good n b l h = and_both (eq-eqb (length b) n l) (all-bytes b h)
+bytes_good : (n : ℕ) (b : List ℕ) → length b ≡ n → AreBytes b → bytes_form n b ≡ true
+unfolding bytes_form
+bytes_good n b l h = and_both (eq-eqb (length b) n l) (all_bytes b h)
 
-pub prepare-typed : (vid : Id) (p : Pending) → p.local ≤ 18446744073709551615 → p.commit ≤ 18446744073709551615 → length p.hash ≡ 32 → AreBytes p.hash → typed (preparing vid p) ≡ true
-unfolding typed lastLsn
-prepare-typed vid p l m n h = and_both (and_both (le-leb p.local 18446744073709551615 l) (le-leb p.commit 18446744073709551615 m)) (bytes_good 32 p.hash n h)
+pub prepare_typed : (vid : Id) (p : Pending) → p.local ≤ 18446744073709551615 → p.commit ≤ 18446744073709551615 → length p.hash ≡ 32 → AreBytes p.hash → typed (preparing vid p) ≡ true
+unfolding typed last_lsn
+prepare_typed vid p l m n h = and_both (and_both (le-leb p.local 18446744073709551615 l) (le-leb p.commit 18446744073709551615 m)) (bytes_good 32 p.hash n h)
 
-pub mark-typed : (sid : Id) (page : ℕ) → length sid ≡ 16 → AreBytes sid → page ≤ 4294967295 → typed (marking sid page) ≡ true
-unfolding typed lastPage
-mark-typed sid page l b p = and_both (bytes_good 16 sid l b) (le-leb page 4294967295 p)
+pub mark_typed : (sid : Id) (page : ℕ) → length sid ≡ 16 → AreBytes sid → page ≤ 4294967295 → typed (marking sid page) ≡ true
+unfolding typed last_page
+mark_typed sid page l b p = and_both (bytes_good 16 sid l b) (le-leb page 4294967295 p)
 
-pub replace-typed : (name : Name) (vid : Id) → AreBytes name → length vid ≡ 16 → AreBytes vid → typed (replacingTag name vid) ≡ true
+pub replace_typed : (name : Name) (vid : Id) → AreBytes name → length vid ≡ 16 → AreBytes vid → typed (replacing_tag name vid) ≡ true
 unfolding typed
-replace-typed name vid n l b = and_both (all-bytes name n) (bytes_good 16 vid l b)
+replace_typed name vid n l b = and_both (all_bytes name n) (bytes_good 16 vid l b)

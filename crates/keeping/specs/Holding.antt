@@ -8,25 +8,25 @@ abbrev pub holding : Table Volume → Table Commit → Table Present → Table T
 holding vs cs ps gs = record { volumes = vs; logs = record { commits = cs; checkpoints = empty 0; index = empty 0 }; presence = ps; tags = gs }
 
 -- volumes, and commits that are read
-abbrev pub volumesAnd : Table Commit → Table Volume → Tables
-volumesAnd cs vs = holding vs cs (empty 0) (empty 0)
+abbrev pub volumes_and : Table Commit → Table Volume → Tables
+volumes_and cs vs = holding vs cs (empty 0) (empty 0)
 
 -- volumes alone
-abbrev pub volumesAlone : Table Volume → Tables
-volumesAlone vs = volumesAnd (empty 0) vs
+abbrev pub volumes_alone : Table Volume → Tables
+volumes_alone vs = volumes_and (empty 0) vs
 
 -- present pages alone
-abbrev pub presenceAlone : Table Present → Tables
-presenceAlone ps = holding (empty 0) (empty 0) ps (empty 0)
+abbrev pub presence_alone : Table Present → Tables
+presence_alone ps = holding (empty 0) (empty 0) ps (empty 0)
 
 -- tags alone
-abbrev pub tagsAlone : Table Tag → Tables
-tagsAlone gs = holding (empty 0) (empty 0) (empty 0) gs
+abbrev pub tags_alone : Table Tag → Tables
+tags_alone gs = holding (empty 0) (empty 0) (empty 0) gs
 
 -- volumes, and the three tables of commits
-abbrev pub volumesAndLogs : Table Volume → Logs → Tables
-volumesAndLogs vs g = record { volumes = vs; logs = g; presence = empty 0; tags = empty 0 }
+abbrev pub volumes_and_logs : Table Volume → Logs → Tables
+volumes_and_logs vs g = record { volumes = vs; logs = g; presence = empty 0; tags = empty 0 }
 
 -- the three tables of commits alone
-abbrev pub logsAlone : Logs → Tables
-logsAlone g = volumesAndLogs (empty 0) g
+abbrev pub logs_alone : Logs → Tables
+logs_alone g = volumes_and_logs (empty 0) g

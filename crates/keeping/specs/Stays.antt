@@ -2,7 +2,7 @@
 use Rattle.std.specs.Prelude.{◌≡◌, ℕ, Bool, true, ◌↔◌, List, [], ◌∷◌}
 use Rattle.octets.specs.Bytes.{part}
 use Rattle.rules.specs.Demand.{Exact, NoPageLost}
-use Rattle.layout.specs.Tables.{commitsIn, commitsOk, checkpointsOk, indexIn, indexOk}
+use Rattle.layout.specs.Tables.{commits_in, commits_ok, checkpoints_ok, index_in, index_ok}
 
 -- a fresh table begins with two zero bytes, whatever lies behind them
 abbrev pub Fresh : List ℕ → Type 0
@@ -14,15 +14,15 @@ StaysFormed ok was left = ok was ≡ true → ok left ≡ true
 
 -- the three tables of commits
 pub record LogsStayFormed (commits checkpoints index commits' checkpoints' index' : List ℕ) : Type 0 where
-  pub of-commits : StaysFormed commitsOk commits commits'
-  pub of-checkpoints : StaysFormed checkpointsOk checkpoints checkpoints'
-  pub of-index : StaysFormed indexOk index index'
+  pub of_commits_lem : StaysFormed commits_ok commits commits'
+  pub of_checkpoints_lem : StaysFormed checkpoints_ok checkpoints checkpoints'
+  pub of_index_lem : StaysFormed index_ok index index'
 
 -- the index stays exact
 abbrev pub StaysExact : (commits index commits' index' : List ℕ) → Type 0
-StaysExact commits index commits' index' = Exact (commitsIn commits) (indexIn index) → Exact (commitsIn commits') (indexIn index')
+StaysExact commits index commits' index' = Exact (commits_in commits) (index_in index) → Exact (commits_in commits') (index_in index')
 
 -- it does just while no stored commit is overwritten by one lacking any of its pages
 abbrev pub StaysExactWhile : (commits index commits' index' : List ℕ) → Type 0
 StaysExactWhile commits index commits' index' =
-    Exact (commitsIn commits) (indexIn index) → Exact (commitsIn commits') (indexIn index') ↔ NoPageLost (commitsIn commits) (commitsIn commits')
+    Exact (commits_in commits) (index_in index) → Exact (commits_in commits') (index_in index') ↔ NoPageLost (commits_in commits) (commits_in commits')

@@ -1,12 +1,12 @@
 // Volumes made from commits that are stored: a copy stores in a log that has no commit, so the index stays exact.
-ghost use Rattle.rules.specs.Calls.{copying, copyingRef};
-ghost use Rattle.layout.specs.Tables.{volumesIn, volumesOk};
-ghost use Rattle.arguments.specs.Snapshots.{snapshotIn};
-ghost use Rattle.writecalls.specs.Written.{logsIn};
+ghost use Rattle.rules.specs.Calls.{copying, copying_ref};
+ghost use Rattle.layout.specs.Tables.{volumes_in, volumes_ok};
+ghost use Rattle.arguments.specs.Snapshots.{snapshot_in};
+ghost use Rattle.writecalls.specs.Written.{logs_in};
 ghost use Rattle.copycalls.specs.Making.{ids};
 ghost use Rattle.keeping.specs.Frame.{Keeps};
 ghost use Rattle.keeping.specs.Stays.{StaysFormed, LogsStayFormed, StaysExact};
-ghost use Rattle.keeping.specs.Holding.{volumesAndLogs};
+ghost use Rattle.keeping.specs.Holding.{volumes_and_logs};
 
 use arguments::Reply;
 use boundary::copycall::{sigatuda_volume_from_logref, sigatuda_volume_from_snapshot};
@@ -23,8 +23,8 @@ pub fn volume_from_snapshot(
     remote: [u8; 16],
     out: &mut [u8],
 ) -> Reply
-    ensures keeps { Keeps (volumesAndLogs (volumesIn volumes.old) (logsIn commits.old checkpoints.old index.old)) (copying (snapshotIn snapshot.now) (ids vid local remote)) (volumesAndLogs (volumesIn volumes.new) (logsIn commits.new checkpoints.new index.new)) }
-    ensures stays_formed { StaysFormed volumesOk volumes.old volumes.new }
+    ensures keeps { Keeps (volumes_and_logs (volumes_in volumes.old) (logs_in commits.old checkpoints.old index.old)) (copying (snapshot_in snapshot.now) (ids vid local remote)) (volumes_and_logs (volumes_in volumes.new) (logs_in commits.new checkpoints.new index.new)) }
+    ensures stays_formed { StaysFormed volumes_ok volumes.old volumes.new }
     ensures logs_stay_formed { LogsStayFormed commits.old checkpoints.old index.old commits.new checkpoints.new index.new }
     ensures stays_exact { StaysExact commits.old index.old commits.new index.new }
 {
@@ -54,8 +54,8 @@ pub fn volume_from_logref(
     remote: [u8; 16],
     out: &mut [u8],
 ) -> Reply
-    ensures keeps { Keeps (volumesAndLogs (volumesIn volumes.old) (logsIn commits.old checkpoints.old index.old)) (copyingRef log.now lsn (ids vid local remote)) (volumesAndLogs (volumesIn volumes.new) (logsIn commits.new checkpoints.new index.new)) }
-    ensures stays_formed { StaysFormed volumesOk volumes.old volumes.new }
+    ensures keeps { Keeps (volumes_and_logs (volumes_in volumes.old) (logs_in commits.old checkpoints.old index.old)) (copying_ref log.now lsn (ids vid local remote)) (volumes_and_logs (volumes_in volumes.new) (logs_in commits.new checkpoints.new index.new)) }
+    ensures stays_formed { StaysFormed volumes_ok volumes.old volumes.new }
     ensures logs_stay_formed { LogsStayFormed commits.old checkpoints.old index.old commits.new checkpoints.new index.new }
     ensures stays_exact { StaysExact commits.old index.old commits.new index.new }
 {

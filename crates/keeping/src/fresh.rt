@@ -1,7 +1,7 @@
 // Fresh tables.
 ghost use Rattle.std.specs.Prelude.{◌≡◌};
 ghost use Rattle.rules.specs.Demand.{Exact};
-ghost use Rattle.layout.specs.Tables.{commitsIn, indexIn};
+ghost use Rattle.layout.specs.Tables.{commits_in, index_in};
 ghost use Rattle.arguments.specs.Replies.{given};
 ghost use Rattle.keeping.specs.Stays.{Fresh};
 
@@ -37,7 +37,7 @@ pub fn formed(
     ensures checkpoints_value { Fresh checkpoints.now → result.checkpoints ≡ given }
     ensures index_value { Fresh index.now → result.index ≡ given }
     ensures presence_value { Fresh presence.now → result.presence ≡ given }
-    ensures exact { Fresh commits.now → Fresh index.now → Exact (commitsIn commits.now) (indexIn index.now) }
+    ensures exact { Fresh commits.now → Fresh index.now → Exact (commits_in commits.now) (index_in index.now) }
 {
     Replies {
         volumes: sigatuda_volumes_formed(volumes),

@@ -1,11 +1,11 @@
 // The ends of a push, success and recover; and open.
 ghost use Rattle.rules.specs.Calls.{succeeding, recovering, opening};
-ghost use Rattle.layout.specs.Tables.{volumesIn, volumesOk, commitsIn};
-ghost use Rattle.writecalls.specs.Written.{commitIn, logsIn};
-ghost use Rattle.opencalls.specs.Opens.{wantedBy, asked, spares};
+ghost use Rattle.layout.specs.Tables.{volumes_in, volumes_ok, commits_in};
+ghost use Rattle.writecalls.specs.Written.{commit_in, logs_in};
+ghost use Rattle.opencalls.specs.Opens.{wanted_by, asked, spares};
 ghost use Rattle.keeping.specs.Frame.{Keeps};
 ghost use Rattle.keeping.specs.Stays.{StaysFormed, LogsStayFormed, StaysExact, StaysExactWhile};
-ghost use Rattle.keeping.specs.Holding.{volumesAnd, volumesAndLogs};
+ghost use Rattle.keeping.specs.Holding.{volumes_and, volumes_and_logs};
 
 use arguments::Reply;
 use boundary::pushcall::{sigatuda_open, sigatuda_recover, sigatuda_success};
@@ -19,8 +19,8 @@ pub fn success(
     vid: &[u8; 16],
     commit: &[u8],
 ) -> Reply
-    ensures keeps { Keeps (volumesAndLogs (volumesIn volumes.old) (logsIn commits.old checkpoints.old index.old)) (succeeding vid.now (commitIn commit.now)) (volumesAndLogs (volumesIn volumes.new) (logsIn commits.new checkpoints.new index.new)) }
-    ensures stays_formed { StaysFormed volumesOk volumes.old volumes.new }
+    ensures keeps { Keeps (volumes_and_logs (volumes_in volumes.old) (logs_in commits.old checkpoints.old index.old)) (succeeding vid.now (commit_in commit.now)) (volumes_and_logs (volumes_in volumes.new) (logs_in commits.new checkpoints.new index.new)) }
+    ensures stays_formed { StaysFormed volumes_ok volumes.old volumes.new }
     ensures logs_stay_formed { LogsStayFormed commits.old checkpoints.old index.old commits.new checkpoints.new index.new }
     ensures stays_exact_while { StaysExactWhile commits.old index.old commits.new index.new }
 {
@@ -35,8 +35,8 @@ pub fn recover(
     index: &mut [u8],
     vid: &[u8; 16],
 ) -> Reply
-    ensures keeps { Keeps (volumesAndLogs (volumesIn volumes.old) (logsIn commits.old checkpoints.old index.old)) (recovering vid.now) (volumesAndLogs (volumesIn volumes.new) (logsIn commits.new checkpoints.new index.new)) }
-    ensures stays_formed { StaysFormed volumesOk volumes.old volumes.new }
+    ensures keeps { Keeps (volumes_and_logs (volumes_in volumes.old) (logs_in commits.old checkpoints.old index.old)) (recovering vid.now) (volumes_and_logs (volumes_in volumes.new) (logs_in commits.new checkpoints.new index.new)) }
+    ensures stays_formed { StaysFormed volumes_ok volumes.old volumes.new }
     ensures logs_stay_formed { LogsStayFormed commits.old checkpoints.old index.old commits.new checkpoints.new index.new }
     ensures stays_exact { StaysExact commits.old index.old commits.new index.new }
 {
@@ -58,8 +58,8 @@ pub fn open(
     spare_remote: [u8; 16],
     out: &mut [u8],
 ) -> Reply
-    ensures keeps { Keeps (volumesAnd (commitsIn commits.now) (volumesIn volumes.old)) (opening (asked (wantedBy has_vid vid spare_vid) (wantedBy has_local local spare_local) (wantedBy has_remote remote spare_remote)) (spares (wantedBy has_vid vid spare_vid) (wantedBy has_local local spare_local) (wantedBy has_remote remote spare_remote))) (volumesAnd (commitsIn commits.now) (volumesIn volumes.new)) }
-    ensures stays_formed { StaysFormed volumesOk volumes.old volumes.new }
+    ensures keeps { Keeps (volumes_and (commits_in commits.now) (volumes_in volumes.old)) (opening (asked (wanted_by has_vid vid spare_vid) (wanted_by has_local local spare_local) (wanted_by has_remote remote spare_remote)) (spares (wanted_by has_vid vid spare_vid) (wanted_by has_local local spare_local) (wanted_by has_remote remote spare_remote))) (volumes_and (commits_in commits.now) (volumes_in volumes.new)) }
+    ensures stays_formed { StaysFormed volumes_ok volumes.old volumes.new }
 {
     sigatuda_open(
         volumes,

@@ -10,33 +10,33 @@ pub record Plain {A : Type 0} (c : Codec A) : Type 0 where
   pub steady : S.Steady c
   pub any : (b : List ℕ) → AreBytes b → length b ≡ c.size → spelled c b ≡ true
 
-pub number-plain : (k : ℕ) → Plain (number k)
-number-plain k = record { steady = S.number-steady k; any = S.number_spelled k }
+pub number_plain : (k : ℕ) → Plain (number k)
+number_plain k = record { steady = S.number_steady k; any = S.number_spelled k }
 
-pub complement-plain : (k : ℕ) → Plain (complement k)
-complement-plain k = record { steady = S.complement-steady k; any = S.complement-spelled k }
+pub complement_plain : (k : ℕ) → Plain (complement k)
+complement_plain k = record { steady = S.complement_steady k; any = S.complement_spelled k }
 
-pub raw-plain : (n : ℕ) → Plain (raw n)
-raw-plain n = record { steady = S.raw-steady n; any = λ b ab e. S.raw-spelled n b }
+pub raw_plain : (n : ℕ) → Plain (raw n)
+raw_plain n = record { steady = S.raw_steady n; any = λ b ab e. S.raw_spelled n b }
 
 module _ {A B : Type 0} (c : Codec A) where
-  pub pair-plain : (d : Codec B) → Plain c → Plain d → Plain (pair c d)
-  pair-plain d p q = record {
-    steady = S.pair-steady c d p.steady q.steady;
+  pub pair_plain : (d : Codec B) → Plain c → Plain d → Plain (pair c d)
+  pair_plain d p q = record {
+    steady = S.pair_steady c d p.steady q.steady;
     any = λ b ab e.
-        S.pair-spelled c d p.steady b e
-        ∙ ap₂ ◌&&◌ (p.any (part 0 c.size b) (P.bytes-part 0 c.size b ab) (P.length_part 0 c.size b (omega arith)))
-        (q.any (part c.size d.size b) (P.bytes-part c.size d.size b ab) (P.length_part c.size d.size b (omega arith)));
+        S.pair_spelled c d p.steady b e
+        ∙ ap₂ ◌&&◌ (p.any (part 0 c.size b) (P.bytes_part 0 c.size b ab) (P.length_part 0 c.size b (omega arith)))
+        (q.any (part c.size d.size b) (P.bytes_part c.size d.size b ab) (P.length_part c.size d.size b (omega arith)));
   }
 
-  pub viewed-plain : (to : A → B) (from : B → A) → ((x : A) → from (to x) ≡ x) → Plain c → Plain (viewed c to from)
-  viewed-plain to from h p = record { steady = S.viewed-steady c to from h p.steady; any = λ b ab e. S.viewed-spelled c to from h b ∙ p.any b ab e }
+  pub viewed_plain : (to : A → B) (from : B → A) → ((x : A) → from (to x) ≡ x) → Plain c → Plain (viewed c to from)
+  viewed_plain to from h p = record { steady = S.viewed_steady c to from h p.steady; any = λ b ab e. S.viewed_spelled c to from h b ∙ p.any b ab e }
 
 -- behind a reserved byte only that byte is asked
-pub key-spelled : {A : Type 0} (c : Codec A) → Plain c → (b : List ℕ) → AreBytes b → length b ≡ 1 + c.size → spelled (reserved c) b ≡ eqb (be (part 0 1 b)) 0
-key-spelled c p b ab e =
-    S.reserved-spelled c b ab e
-    ∙ ap (λ t. eqb (be (part 0 1 b)) 0 && t) (p.any (part 1 c.size b) (P.bytes-part 1 c.size b ab) (P.length_part 1 c.size b (omega arith)))
+pub key_spelled : {A : Type 0} (c : Codec A) → Plain c → (b : List ℕ) → AreBytes b → length b ≡ 1 + c.size → spelled (reserved c) b ≡ eqb (be (part 0 1 b)) 0
+key_spelled c p b ab e =
+    S.reserved_spelled c b ab e
+    ∙ ap (λ t. eqb (be (part 0 1 b)) 0 && t) (p.any (part 1 c.size b) (P.bytes_part 1 c.size b ab) (P.length_part 1 c.size b (omega arith)))
     ∙ and-true (eqb (be (part 0 1 b)) 0)
   where
     and-true : (x : Bool) → (x && true) ≡ x

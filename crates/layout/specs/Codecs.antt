@@ -3,7 +3,7 @@
 use Rattle.std.specs.Prelude.{◌≡◌, ℕ, ◌+◌, ◌-◌, ◌*◌, ◌^◌, min, Bool, cond, ◌&&◌, List, [], ◌∷◌, ◌++◌, map, length, replicate, ◌==◌}
 use Rattle.std.proofs.Math.Option.{Option, none, some}
 use Rattle.octets.specs.Bytes.{be, bytes_of, down, part, AreBytes}
-use Rattle.octets.specs.Order.{lex, isEqual}
+use Rattle.octets.specs.Order.{lex, is_equal}
 use Rattle.octets.specs.Flat.{flat}
 use Rattle.table.specs.Table.{runs}
 
@@ -73,11 +73,11 @@ module _ {A : Type 0} (c : Codec A) where
 
   -- they are the bytes of the value that they spell
   unfoldable pub spelled : List ℕ → Bool
-  spelled b = isEqual (lex (c.spell (c.read b)) b)
+  spelled b = is_equal (lex (c.spell (c.read b)) b)
 
   -- and that value is in document 01's form
-  unfoldable pub inForm : (A → Bool) → List ℕ → Bool
-  inForm form b = spelled b && form (c.read b)
+  unfoldable pub in_form : (A → Bool) → List ℕ → Bool
+  in_form form b = spelled b && form (c.read b)
 
 -- the form holds a value: it has the form's number of bytes, and they spell it
 pub record Holds {A : Type 0} (c : Codec A) (x : A) : Type 0 where

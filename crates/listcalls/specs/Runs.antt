@@ -4,28 +4,28 @@ use Rattle.octets.specs.Bytes.{part, put}
 use Rattle.table.specs.Table.{count_of}
 use Rattle.rules.specs.Lists.{those}
 use Rattle.rules.specs.Records.{Commit, Range}
-use Rattle.rules.specs.Walk.{in_range, pathCommits}
-use Rattle.layout.specs.Tables.{commitsIn}
+use Rattle.rules.specs.Walk.{in_range, path_commits}
+use Rattle.layout.specs.Tables.{commits_in}
 use Rattle.rows.specs.Lookups.{stretch}
 use Rattle.volume.specs.declared.snapshot.LogRange.{LogRange}
-use Rattle.volume.specs.Snapshots.{rangeSays}
+use Rattle.volume.specs.Snapshots.{range_says}
 use Rattle.arguments.specs.declared.Reply.{Reply}
-use Rattle.arguments.specs.Replies.{none-under, given}
+use Rattle.arguments.specs.Replies.{none_under, given}
 
 -- the rows of a table, s bytes each, as a list: 19 where they do not fit
-unfoldable pub rowsPut : ℕ → List ℕ → List ℕ → ℕ → Reply × (List ℕ × ℕ)
-rowsPut s t was items = cond (nat_le (count_of t) (length was / s)) (given, (put 0 (part 2 (count_of t * s) t) was, count_of t)) (none-under 19, (was, items))
+unfoldable pub rows_put : ℕ → List ℕ → List ℕ → ℕ → Reply × (List ℕ × ℕ)
+rows_put s t was items = cond (nat_le (count_of t) (length was / s)) (given, (put 0 (part 2 (count_of t * s) t) was, count_of t)) (none_under 19, (was, items))
 
 -- the stored commits of a range, LSN falling
-abbrev pub rangeCommits : List ℕ → Range → List Commit
-rangeCommits t r = those (in_range r) (commitsIn t).rows
+abbrev pub range_commits : List ℕ → Range → List Commit
+range_commits t r = those (in_range r) (commits_in t).rows
 
 -- they stand from one place up to another
 pub record StandsAt (t : List ℕ) (r : Range) (from to : ℕ) : Type 0 where
   pub below : from ≤ to
   pub inside : to ≤ count_of t
-  pub commits : stretch from to (commitsIn t).rows ≡ rangeCommits t r
+  pub commits : stretch from to (commits_in t).rows ≡ range_commits t r
 
 -- the stored commits of the first n ranges of a path
-abbrev pub firstCommits : List ℕ → ℕ → List LogRange → List Commit
-firstCommits t n path = pathCommits (commitsIn t) (map rangeSays (take n path))
+abbrev pub first_commits : List ℕ → ℕ → List LogRange → List Commit
+first_commits t n path = path_commits (commits_in t) (map range_says (take n path))

@@ -3,24 +3,24 @@
 ghost use Rattle.std.specs.Prelude.{◌≡◌, ◌+◌, ◌-◌, ◌*◌, ◌<◌, ◌≤◌, true, map, length};
 ghost use Rattle.octets.specs.Bytes.{put};
 ghost use Rattle.octets.specs.Flat.{flat};
-ghost use Rattle.rules.specs.Reads.{volumeList, tagList, storedLsns};
-ghost use Rattle.rules.specs.Walk.{snapshotCommits};
+ghost use Rattle.rules.specs.Reads.{volume_list, tag_list, stored_lsns};
+ghost use Rattle.rules.specs.Walk.{snapshot_commits};
 ghost use Rattle.table.specs.Table.{count_of};
 ghost use Rattle.layout.specs.Codecs.{number};
-ghost use Rattle.layout.specs.Records.{volumeBytes, tagBytes, commitBytes};
-ghost use Rattle.layout.specs.Tables.{volumesIn, volumesOk, tagsIn, tagsOk, commitsIn, commitsOk};
+ghost use Rattle.layout.specs.Records.{volume_bytes, tag_bytes, commit_bytes};
+ghost use Rattle.layout.specs.Tables.{volumes_in, volumes_ok, tags_in, tags_ok, commits_in, commits_ok};
 ghost use Rattle.layout.specs.Lent.{lent};
 ghost use Rattle.rows.specs.Lookups.{stretch};
-ghost use Rattle.volume.specs.Snapshots.{rangeSays};
-ghost use Rattle.resultlists.specs.Lists.{slotsIn, listLeft};
-ghost use Rattle.resultlists.specs.Snapshots.{onSnapshot};
-ghost use Rattle.listcalls.specs.Runs.{rowsPut, rangeCommits, StandsAt, firstCommits};
+ghost use Rattle.volume.specs.Snapshots.{range_says};
+ghost use Rattle.resultlists.specs.Lists.{slots_in, list_left};
+ghost use Rattle.resultlists.specs.Snapshots.{on_snapshot};
+ghost use Rattle.listcalls.specs.Runs.{rows_put, range_commits, StandsAt, first_commits};
 
 use arguments::Reply;
 use arguments::snapshots::snapshot_arg;
 use commits::commits_formed;
-use core::id::LogId;
-use core::lsn::Lsn;
+use basics::id::LogId;
+use basics::lsn::Lsn;
 use layout::{COMMIT, TAG, VOLUME};
 use resultlists::snapshot_code;
 use table::Run;
@@ -36,7 +36,7 @@ const LSN: usize = 8;
 // All rows of a table as a list: 19.
 fn put_rows(t: &[u8], stride: usize, list: &mut [u8], items: &mut u32) -> Reply
     requires { (0 < stride) × (2 ≤ length t.now) × (2 + count_of t.now * stride ≤ length t.now) }
-    ensures { (result, (list.new, items.new)) ≡ rowsPut stride t.now list.old items.old }
+    ensures { (result, (list.new, items.new)) ≡ rows_put stride t.now list.old items.old }
 {
     let n = table::count(t);
     if list.len() / stride < n {
@@ -49,7 +49,7 @@ fn put_rows(t: &[u8], stride: usize, list: &mut [u8], items: &mut u32) -> Reply
 
 // The volumes, in key order: 20, 19.
 pub fn volume_list(volumes: &[u8], list: &mut [u8], items: &mut u32) -> Reply
-    ensures { (result, (list.new, items.new)) ≡ listLeft volumeBytes list.old items.old (lent (volumesOk volumes.now) (volumeList (volumesIn volumes.now) (slotsIn volumeBytes list.old))) }
+    ensures { (result, (list.new, items.new)) ≡ list_left volume_bytes list.old items.old (lent (volumes_ok volumes.now) (volume_list (volumes_in volumes.now) (slots_in volume_bytes list.old))) }
 {
     if !volumes_formed(volumes) {
         return Reply { code: 20, found: 0 };
@@ -59,7 +59,7 @@ pub fn volume_list(volumes: &[u8], list: &mut [u8], items: &mut u32) -> Reply
 
 // The tags, in key order: 20, 19.
 pub fn tag_list(tags: &[u8], list: &mut [u8], items: &mut u32) -> Reply
-    ensures { (result, (list.new, items.new)) ≡ listLeft tagBytes list.old items.old (lent (tagsOk tags.now) (tagList (tagsIn tags.now) (slotsIn tagBytes list.old))) }
+    ensures { (result, (list.new, items.new)) ≡ list_left tag_bytes list.old items.old (lent (tags_ok tags.now) (tag_list (tags_in tags.now) (slots_in tag_bytes list.old))) }
 {
     if !tags_formed(tags) {
         return Reply { code: 20, found: 0 };
@@ -71,8 +71,8 @@ pub fn tag_list(tags: &[u8], list: &mut [u8], items: &mut u32) -> Reply
 
 // Where the commits of a range stand.
 fn places_of(commits: &[u8], range: LogRange) -> Run
-    requires { commitsOk commits.now ≡ true }
-    ensures { StandsAt commits.now (rangeSays range) result.from result.to }
+    requires { commits_ok commits.now ≡ true }
+    ensures { StandsAt commits.now (range_says range) result.from result.to }
 {
     let log = range.log;
     let run = commits::range_run(commits, log, range.start.0, range.end.0);
@@ -86,8 +86,8 @@ fn places_of(commits: &[u8], range: LogRange) -> Run
 
 // The LSNs of the commits from one place up to another, 8 bytes each, from the start of the list on.
 fn put_lsns(commits: &[u8], from: usize, to: usize, list: &mut [u8])
-    requires { (commitsOk commits.now ≡ true) × (from ≤ to) × (to ≤ count_of commits.now) × ((to - from) * 8 ≤ length list.old) }
-    ensures { list.new ≡ put 0 (flat (number 8).spell (map (λ c. c.lsn) (stretch from to (commitsIn commits.now).rows))) list.old }
+    requires { (commits_ok commits.now ≡ true) × (from ≤ to) × (to ≤ count_of commits.now) × ((to - from) * 8 ≤ length list.old) }
+    ensures { list.new ≡ put 0 (flat (number 8).spell (map (λ c. c.lsn) (stretch from to (commits_in commits.now).rows))) list.old }
 {
     let mut i = from;
     while i < to {
@@ -105,7 +105,7 @@ pub fn stored_lsns(
     list: &mut [u8],
     items: &mut u32,
 ) -> Reply
-    ensures { (result, (list.new, items.new)) ≡ listLeft (number 8) list.old items.old (lent (commitsOk commits.now) (storedLsns (commitsIn commits.now) (slotsIn (number 8) list.old) (record { log = log; start = start.0; end = end.0 }))) }
+    ensures { (result, (list.new, items.new)) ≡ list_left (number 8) list.old items.old (lent (commits_ok commits.now) (stored_lsns (commits_in commits.now) (slots_in (number 8) list.old) (record { log = log; start = start.0; end = end.0 }))) }
 {
     if !commits_formed(commits) {
         return Reply { code: 20, found: 0 };
@@ -133,8 +133,8 @@ pub fn stored_lsns(
 
 // How many commits the first ranges of a path have, one that two ranges have twice.
 fn count_commits(commits: &[u8], path: [LogRange; 8], len: usize) -> usize
-    requires { (commitsOk commits.now ≡ true) × (len ≤ 8) }
-    ensures { (result ≡ length (firstCommits commits.now len path)) × (result ≤ len * 65535) }
+    requires { (commits_ok commits.now ≡ true) × (len ≤ 8) }
+    ensures { (result ≡ length (first_commits commits.now len path)) × (result ≤ len * 65535) }
 {
     let mut n: usize = 0;
     let mut i: usize = 0;
@@ -149,8 +149,8 @@ fn count_commits(commits: &[u8], path: [LogRange; 8], len: usize) -> usize
 
 // The commits of a range over a list's entries from the k-th on; the number of entries after them.
 fn put_range(commits: &[u8], range: LogRange, list: &mut [u8], k: usize) -> usize
-    requires { (commitsOk commits.now ≡ true) × ((k + length (rangeCommits commits.now (rangeSays range))) * 722 ≤ length list.old) }
-    ensures { (result ≡ k + length (rangeCommits commits.now (rangeSays range))) × (list.new ≡ put (k * 722) (flat commitBytes.spell (rangeCommits commits.now (rangeSays range))) list.old) }
+    requires { (commits_ok commits.now ≡ true) × ((k + length (range_commits commits.now (range_says range))) * 722 ≤ length list.old) }
+    ensures { (result ≡ k + length (range_commits commits.now (range_says range))) × (list.new ≡ put (k * 722) (flat commit_bytes.spell (range_commits commits.now (range_says range))) list.old) }
 {
     let run = places_of(commits, range);
     let from = run.from;
@@ -161,8 +161,8 @@ fn put_range(commits: &[u8], range: LogRange, list: &mut [u8], k: usize) -> usiz
 
 // The commits of the first ranges of a path, range by range, from the start of the list on.
 fn put_commits(commits: &[u8], path: [LogRange; 8], len: usize, list: &mut [u8])
-    requires { (commitsOk commits.now ≡ true) × (len ≤ 8) × (length (firstCommits commits.now len path) * 722 ≤ length list.old) }
-    ensures { list.new ≡ put 0 (flat commitBytes.spell (firstCommits commits.now len path)) list.old }
+    requires { (commits_ok commits.now ≡ true) × (len ≤ 8) × (length (first_commits commits.now len path) * 722 ≤ length list.old) }
+    ensures { list.new ≡ put 0 (flat commit_bytes.spell (first_commits commits.now len path)) list.old }
 {
     let mut k: usize = 0;
     let mut i: usize = 0;
@@ -175,7 +175,7 @@ fn put_commits(commits: &[u8], path: [LogRange; 8], len: usize, list: &mut [u8])
 
 // The commits of a snapshot, ranges in path order, LSN falling: 20, 1, 2, 3, 19.
 pub fn snapshot_commits(commits: &[u8], snapshot: &[u8], list: &mut [u8], items: &mut u32) -> Reply
-    ensures { (result, (list.new, items.new)) ≡ listLeft commitBytes list.old items.old (lent (commitsOk commits.now) (onSnapshot snapshot.now (snapshotCommits (commitsIn commits.now) (slotsIn commitBytes list.old)))) }
+    ensures { (result, (list.new, items.new)) ≡ list_left commit_bytes list.old items.old (lent (commits_ok commits.now) (on_snapshot snapshot.now (snapshot_commits (commits_in commits.now) (slots_in commit_bytes list.old)))) }
 {
     if !commits_formed(commits) {
         return Reply { code: 20, found: 0 };

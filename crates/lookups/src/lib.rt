@@ -1,19 +1,19 @@
 // Lookups among the checkpoints and in the page index: each is one find of a key, and a test of the record that stands there.
-ghost use Rattle.core.specs.Prelude.{◌≡◌, ◌+◌, ◌≤◌, true, length};
+ghost use Rattle.std.specs.Prelude.{◌≡◌, ◌+◌, ◌≤◌, true, length};
 ghost use Rattle.octets.specs.Bytes.{part};
 ghost use Rattle.rules.specs.Lists.{first};
-ghost use Rattle.rules.specs.Tables.{checkpointAt};
-ghost use Rattle.rules.specs.Search.{entryIn};
-ghost use Rattle.layout.specs.Records.{checkpointBytes, entryBytes};
-ghost use Rattle.layout.specs.Tables.{checkpointsIn, checkpointsOk, indexIn, indexOk};
-ghost use Rattle.volume.specs.Volumes.{maybeLsnSays};
-ghost use Rattle.volume.specs.Snapshots.{rangeSays};
-ghost use Rattle.lookups.specs.Found.{atOrBelow, checkpointLsn, entryLsn};
+ghost use Rattle.rules.specs.Tables.{checkpoint_at};
+ghost use Rattle.rules.specs.Search.{entry_in};
+ghost use Rattle.layout.specs.Records.{checkpoint_bytes, entry_bytes};
+ghost use Rattle.layout.specs.Tables.{checkpoints_in, checkpoints_ok, index_in, index_ok};
+ghost use Rattle.volume.specs.Volumes.{maybe_lsn_says};
+ghost use Rattle.volume.specs.Snapshots.{range_says};
+ghost use Rattle.lookups.specs.Found.{at_or_below, checkpoint_lsn, entry_lsn};
 
-use core::id;
-use core::id::LogId;
-use core::lsn::Lsn;
-use core::pageidx::PageIdx;
+use basics::id;
+use basics::id::LogId;
+use basics::lsn::Lsn;
+use basics::pageidx::PageIdx;
 use layout::{CHECKPOINT, ENTRY};
 use volume::snapshot::LogRange;
 use volume::volume::MaybeLsn;
@@ -21,7 +21,7 @@ use volume::volume::MaybeLsn;
 // Whether the checkpoint at a place is the log's, at or below an LSN.
 fn at_or_below(t: &[u8], at: usize, log: LogId, lsn: Lsn) -> bool
     requires { at + 25 ≤ length t.now }
-    ensures { result ≡ atOrBelow log lsn.0 (checkpointBytes.read (part at 25 t.now)) }
+    ensures { result ≡ at_or_below log lsn.0 (checkpoint_bytes.read (part at 25 t.now)) }
 {
     if !id::same(log, octets::load_id(t, at + 1)) {
         return false;
@@ -31,8 +31,8 @@ fn at_or_below(t: &[u8], at: usize, log: LogId, lsn: Lsn) -> bool
 
 // The LSN of the log's highest checkpoint at or below an LSN, or nothing.
 pub fn checkpoint_at(t: &[u8], log: LogId, lsn: Lsn) -> MaybeLsn
-    requires { checkpointsOk t.now ≡ true }
-    ensures { maybeLsnSays result ≡ checkpointLsn (checkpointAt (checkpointsIn t.now) log lsn.0) }
+    requires { checkpoints_ok t.now ≡ true }
+    ensures { maybe_lsn_says result ≡ checkpoint_lsn (checkpoint_at (checkpoints_in t.now) log lsn.0) }
 {
     let key = layout::log_key(log, lsn.0);
     let i = table::from_key(t, CHECKPOINT, CHECKPOINT, &key);
@@ -49,7 +49,7 @@ pub fn checkpoint_at(t: &[u8], log: LogId, lsn: Lsn) -> MaybeLsn
 // Whether the index entry at a place is one of a page, in a range.
 fn in_range(t: &[u8], at: usize, range: LogRange, page: PageIdx) -> bool
     requires { at + 29 ≤ length t.now }
-    ensures { result ≡ entryIn (rangeSays range) page.0 (entryBytes.read (part at 29 t.now)) }
+    ensures { result ≡ entry_in (range_says range) page.0 (entry_bytes.read (part at 29 t.now)) }
 {
     let log = range.log;
     if !id::same(log, octets::load_id(t, at + 1)) {
@@ -67,8 +67,8 @@ fn in_range(t: &[u8], at: usize, range: LogRange, page: PageIdx) -> bool
 
 // The LSN of the index entry of a page with the highest LSN in a range, or nothing.
 pub fn entry_in(t: &[u8], range: LogRange, page: PageIdx) -> MaybeLsn
-    requires { indexOk t.now ≡ true }
-    ensures { maybeLsnSays result ≡ entryLsn (first (entryIn (rangeSays range) page.0) (indexIn t.now).rows) }
+    requires { index_ok t.now ≡ true }
+    ensures { maybe_lsn_says result ≡ entry_lsn (first (entry_in (range_says range) page.0) (index_in t.now).rows) }
 {
     let log = range.log;
     let end = range.end;

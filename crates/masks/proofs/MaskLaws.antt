@@ -14,28 +14,28 @@ use lib.Pow.{ones_sub-lt, ones_split, ones_lt, high}
 use lib.Seq.{take-suc, take-suc-set, drop-cons, drop-set-lt}
 use Rattle.octets.specs.Bytes.{be, part}
 use Rattle.pageset.specs.declared.Window.{Window}
-use Rattle.pageset.specs.Sets.{bit, maskAt, rising, zeroWindow}
-use Rattle.pageset.proofs.BitLaws.{bit-and, bit_not, bit-ext}
-use Rattle.pageset.proofs.WindowLaws.{mask-same, mask-other}
+use Rattle.pageset.specs.Sets.{bit, mask_at, rising, zero_window}
+use Rattle.pageset.proofs.BitLaws.{bit_and_lem, bit_not, bit_ext}
+use Rattle.pageset.proofs.WindowLaws.{mask_same, mask_other}
 use Rattle.rules.specs.Records.{Pages}
 use Rattle.rules.specs.Pages.{up_to, without}
-use Rattle.rules.proofs.TableLaws.{and-fst, and-snd, and_both}
-use Rattle.rules.proofs.PageLaws.{mask_below, rising-weaken, bit-without}
+use Rattle.rules.proofs.TableLaws.{and_fst, and_snd, and_both}
+use Rattle.rules.proofs.PageLaws.{mask_below, rising_weaken, bit_without}
 use Rattle.setbytes.specs.Laid.{windows_at}
-use Rattle.setbytes.proofs.SetLaws.{length-windows, window-nth}
-use Rattle.setbytes.proofs.WindowLaws.{window-at}
-use Rattle.masks.specs.Masks.{lessMasks, moreMasks, noMasks}
+use Rattle.setbytes.proofs.SetLaws.{length_windows, window_nth}
+use Rattle.setbytes.proofs.WindowLaws.{window_at}
+use Rattle.masks.specs.Masks.{less_masks, more_masks, no_masks}
 
 -- ---- bits
 
 -- `m & !k`
-pub and-not : (m k : ℕ) → m < 2 ^ 64 → k < 2 ^ 64 → bit_and m ((2 ^ 64 - 1) - k) ≡ without m k
-and-not m k h l =
-    bit-ext 64 (bit_and m ((2 ^ 64 - 1) - k)) (without m k) (and_lt 64 m ((2 ^ 64 - 1) - k) h (ones_sub-lt 64 k)) (xor_lt 64 m (bit_and m k) h (and_lt 64 m k h l)) (λ b j.
-    bit-and m ((2 ^ 64 - 1) - k) b ∙ ap (λ (x : Bool). bit m b && x) (bit_not 64 b k j l) ∙ sym (bit-without m k b))
+pub and_not_lem : (m k : ℕ) → m < 2 ^ 64 → k < 2 ^ 64 → bit_and m ((2 ^ 64 - 1) - k) ≡ without m k
+and_not_lem m k h l =
+    bit_ext 64 (bit_and m ((2 ^ 64 - 1) - k)) (without m k) (and_lt 64 m ((2 ^ 64 - 1) - k) h (ones_sub-lt 64 k)) (xor_lt 64 m (bit_and m k) h (and_lt 64 m k h l)) (λ b j.
+    bit_and_lem m ((2 ^ 64 - 1) - k) b ∙ ap (λ (x : Bool). bit m b && x) (bit_not 64 b k j l) ∙ sym (bit_without m k b))
 
-pub without-none : (m : ℕ) → without m 0 ≡ m
-without-none m = ap (bit_xor m) (and_zero_r m) ∙ xor_zero_r m
+pub without_none : (m : ℕ) → without m 0 ≡ m
+without_none m = ap (bit_xor m) (and_zero_r m) ∙ xor_zero_r m
 
 -- ---- a mask cut at a count
 
@@ -43,8 +43,8 @@ module _ (n q m : ℕ) where
   pub kept_whole : q < n / 64 → m ≡ up_to n q m
   kept_whole h = rw (lt-ltb q (n / 64) h)
 
-  pub kept-none : n / 64 < q → 0 ≡ up_to n q m
-  kept-none h = rw (le-ltb q (n / 64) (omega arith), ne_eqb q (n / 64) (λ e. omega arith))
+  pub kept_none : n / 64 < q → 0 ≡ up_to n q m
+  kept_none h = rw (le-ltb q (n / 64) (omega arith), ne_eqb q (n / 64) (λ e. omega arith))
 
   pub kept_low : q ≡ n / 64 → bit_and m ((2 ^ 64 - 1) / 2 ^ (63 - n % 64)) ≡ up_to n q m
   kept_low h =
@@ -57,59 +57,59 @@ module _ (n q m : ℕ) where
 -- ---- masks less the pages of a set
 
 -- no page
-less_none : (ws : Pages) (ms : List ℕ) → lessMasks ws [] ms ≡ ms
-unfolding lessMasks maskAt
+less_none : (ws : Pages) (ms : List ℕ) → less_masks ws [] ms ≡ ms
+unfolding less_masks mask_at
 less_none [] ms = refl
 less_none (w ∷ ws) [] = refl
-less_none (w ∷ ws) (m ∷ ms) = ap₂ ◌∷◌ (without-none m) (less_none ws ms)
+less_none (w ∷ ws) (m ∷ ms) = ap₂ ◌∷◌ (without_none m) (less_none ws ms)
 
 -- a window below all of these
-less-below : (lo : ℕ) (ws u : Pages) (v : Window) (ms : List ℕ) → v.index < lo → rising lo ws ≡ true → lessMasks ws (v ∷ u) ms ≡ lessMasks ws u ms
-unfolding lessMasks rising
-less-below lo [] u v ms h r = refl
-less-below lo (w ∷ ws) u v [] h r = refl
-less-below lo (w ∷ ws) u v (m ∷ ms) h r =
-    let l = leb-true lo w.index (and-fst (leb lo w.index) (rising (w.index + 1) ws) r) in
-    ap₂ {C = List ℕ} (λ x y. without m x ∷ y) (mask-other v u w.index (λ e. omega arith)) (less-below (w.index + 1) ws u v ms (omega arith) (and-snd (leb lo w.index) (rising (w.index + 1) ws) r))
+less_below : (lo : ℕ) (ws u : Pages) (v : Window) (ms : List ℕ) → v.index < lo → rising lo ws ≡ true → less_masks ws (v ∷ u) ms ≡ less_masks ws u ms
+unfolding less_masks rising
+less_below lo [] u v ms h r = refl
+less_below lo (w ∷ ws) u v [] h r = refl
+less_below lo (w ∷ ws) u v (m ∷ ms) h r =
+    let l = leb-true lo w.index (and_fst (leb lo w.index) (rising (w.index + 1) ws) r) in
+    ap₂ {C = List ℕ} (λ x y. without m x ∷ y) (mask_other v u w.index (λ e. omega arith)) (less_below (w.index + 1) ws u v ms (omega arith) (and_snd (leb lo w.index) (rising (w.index + 1) ws) r))
 
 -- two first windows
-module _ (w v : Window) (ws u : Pages) (ms : List ℕ) (rest : rising (w.index + 1) ws ≡ true) (rest-v : rising (v.index + 1) u ≡ true) where
+module _ (w v : Window) (ws u : Pages) (ms : List ℕ) (rest : rising (w.index + 1) ws ≡ true) (rest_v : rising (v.index + 1) u ≡ true) where
   from : rising w.index (w ∷ ws) ≡ true
   unfolding rising
   from = and_both (le-leb w.index w.index (omega arith)) rest
 
-  from-v : rising v.index (v ∷ u) ≡ true
+  from_v : rising v.index (v ∷ u) ≡ true
   unfolding rising
-  from-v = and_both (le-leb v.index v.index (omega arith)) rest-v
+  from_v = and_both (le-leb v.index v.index (omega arith)) rest_v
 
-  first-lower : (m : ℕ) → w.index < v.index → lessMasks (w ∷ ws) (v ∷ u) (m ∷ ms) ≡ m ∷ lessMasks ws (v ∷ u) ms
-  unfolding lessMasks
-  first-lower m h = ap {B = List ℕ} (λ (x : ℕ). without m x ∷ lessMasks ws (v ∷ u) ms) (mask_below v.index w.index (v ∷ u) h from-v) ∙ ap {B = List ℕ} (λ (x : ℕ). x ∷ lessMasks ws (v ∷ u) ms) (without-none m)
+  first_lower : (m : ℕ) → w.index < v.index → less_masks (w ∷ ws) (v ∷ u) (m ∷ ms) ≡ m ∷ less_masks ws (v ∷ u) ms
+  unfolding less_masks
+  first_lower m h = ap {B = List ℕ} (λ (x : ℕ). without m x ∷ less_masks ws (v ∷ u) ms) (mask_below v.index w.index (v ∷ u) h from_v) ∙ ap {B = List ℕ} (λ (x : ℕ). x ∷ less_masks ws (v ∷ u) ms) (without_none m)
 
-  first-same : (m k : ℕ) → w.index ≡ v.index → k ≡ without m v.mask → lessMasks (w ∷ ws) (v ∷ u) (m ∷ ms) ≡ k ∷ lessMasks ws u ms
-  unfolding lessMasks
-  first-same m k h e = ap₂ {C = List ℕ} (λ x y. x ∷ y) (ap (without m) (mask-same v u w.index (sym h)) ∙ sym e) (less-below (w.index + 1) ws u v ms (omega arith) rest)
+  first_same : (m k : ℕ) → w.index ≡ v.index → k ≡ without m v.mask → less_masks (w ∷ ws) (v ∷ u) (m ∷ ms) ≡ k ∷ less_masks ws u ms
+  unfolding less_masks
+  first_same m k h e = ap₂ {C = List ℕ} (λ x y. x ∷ y) (ap (without m) (mask_same v u w.index (sym h)) ∙ sym e) (less_below (w.index + 1) ws u v ms (omega arith) rest)
 
-  first-higher : v.index < w.index → lessMasks (w ∷ ws) u ms ≡ lessMasks (w ∷ ws) (v ∷ u) ms
-  first-higher h = sym (less-below w.index (w ∷ ws) u v ms h from)
+  first_higher : v.index < w.index → less_masks (w ∷ ws) u ms ≡ less_masks (w ∷ ws) (v ∷ u) ms
+  first_higher h = sym (less_below w.index (w ∷ ws) u v ms h from)
 
 -- ---- the windows in bytes
 
 -- the windows from i on rise
-drop-rises : (i lo : ℕ) (ws : Pages) → rising lo ws ≡ true → rising 0 (drop i ws) ≡ true
+drop_rises : (i lo : ℕ) (ws : Pages) → rising lo ws ≡ true → rising 0 (drop i ws) ≡ true
 unfolding rising
-drop-rises zero lo ws e = rising-weaken 0 lo ws (omega arith) e
-drop-rises (suc i) lo [] e = refl
-drop-rises (suc i) lo (w ∷ ws) e = drop-rises i (w.index + 1) ws (and-snd (leb lo w.index) (rising (w.index + 1) ws) e)
+drop_rises zero lo ws e = rising_weaken 0 lo ws (omega arith) e
+drop_rises (suc i) lo [] e = refl
+drop_rises (suc i) lo (w ∷ ws) e = drop_rises i (w.index + 1) ws (and_snd (leb lo w.index) (rising (w.index + 1) ws) e)
 
-rest-rises : (w : Window) (ws : Pages) → rising 0 (w ∷ ws) ≡ true → rising (w.index + 1) ws ≡ true
+rest_rises : (w : Window) (ws : Pages) → rising 0 (w ∷ ws) ≡ true → rising (w.index + 1) ws ≡ true
 unfolding rising
-rest-rises w ws e = and-snd (leb 0 w.index) (rising (w.index + 1) ws) e
+rest_rises w ws e = and_snd (leb 0 w.index) (rising (w.index + 1) ws) e
 
 module _ (n at : ℕ) (s : List ℕ) (i : ℕ) where
   -- none is left
   pub done_all : n ≤ i → drop i (windows_at n at s) ≡ []
-  done_all h = drop_of_length-le (windows_at n at s) {i = i} (omega (arith, length-windows n at s))
+  done_all h = drop_of_length-le (windows_at n at s) {i = i} (omega (arith, length_windows n at s))
 
   -- window i, and those after it
   abbrev pub window : Window
@@ -117,29 +117,29 @@ module _ (n at : ℕ) (s : List ℕ) (i : ℕ) where
 
   pub one_on : i < n → drop i (windows_at n at s) ≡ window ∷ drop (i + 1) (windows_at n at s)
   one_on h =
-      let l : i < length (windows_at n at s) = omega (arith, length-windows n at s) in
-      rw (add-one, drop-cons (windows_at n at s) i zeroWindow l) (ap (λ (w : Window). w ∷ drop (suc i) (windows_at n at s)) (window-nth n at s i h ∙ window-at (at + i * 12) s))
+      let l : i < length (windows_at n at s) = omega (arith, length_windows n at s) in
+      rw (add-one, drop-cons (windows_at n at s) i zero_window l) (ap (λ (w : Window). w ∷ drop (suc i) (windows_at n at s)) (window_nth n at s i h ∙ window_at (at + i * 12) s))
 
-  rises-on : rising 0 (windows_at n at s) ≡ true → i < n → rising (window.index + 1) (drop (i + 1) (windows_at n at s)) ≡ true
-  rises-on up h = rest-rises window (drop (i + 1) (windows_at n at s)) (ap (rising 0) (sym (one_on h)) ∙ drop-rises i 0 (windows_at n at s) up)
+  rises_on : rising 0 (windows_at n at s) ≡ true → i < n → rising (window.index + 1) (drop (i + 1) (windows_at n at s)) ≡ true
+  rises_on up h = rest_rises window (drop (i + 1) (windows_at n at s)) (ap (rising 0) (sym (one_on h)) ∙ drop_rises i 0 (windows_at n at s) up)
 
 -- ---- the masks
 
 module _ (ms : List ℕ) (i : ℕ) (h : i < length ms) where
-  pub mask-on : drop i ms ≡ get_or ms i 0 ∷ drop (i + 1) ms
-  mask-on = rw (add-one, drop-cons ms i 0 h)
+  pub mask_on : drop i ms ≡ get_or ms i 0 ∷ drop (i + 1) ms
+  mask_on = rw (add-one, drop-cons ms i 0 h)
 
-  mask-passed : (r : List ℕ) → take (i + 1) ms ++ r ≡ take i ms ++ (get_or ms i 0 ∷ r)
-  mask-passed r = rw (add-one, take-suc ms i 0 h) (append_assoc (take i ms) (get_or ms i 0 ∷ []) r)
+  mask_passed : (r : List ℕ) → take (i + 1) ms ++ r ≡ take i ms ++ (get_or ms i 0 ∷ r)
+  mask_passed r = rw (add-one, take-suc ms i 0 h) (append_assoc (take i ms) (get_or ms i 0 ∷ []) r)
 
-  mask-set : (k : ℕ) (r : List ℕ) → take (i + 1) (set ms i k) ++ r ≡ take i ms ++ (k ∷ r)
-  mask-set k r = rw (add-one, take-suc-set ms i k h) (append_assoc (take i ms) (k ∷ []) r)
+  mask_set : (k : ℕ) (r : List ℕ) → take (i + 1) (set ms i k) ++ r ≡ take i ms ++ (k ∷ r)
+  mask_set k r = rw (add-one, take-suc-set ms i k h) (append_assoc (take i ms) (k ∷ []) r)
 
 -- ---- the turns of `less`
 
 -- the masks, when the windows from i on have lost the pages of the others from j on
-abbrev pub lessFrom : Pages → Pages → ℕ → ℕ → List ℕ → List ℕ
-lessFrom ws u i j ms = take i ms ++ lessMasks (drop i ws) (drop j u) (drop i ms)
+abbrev pub less_from : Pages → Pages → ℕ → ℕ → List ℕ → List ℕ
+less_from ws u i j ms = take i ms ++ less_masks (drop i ws) (drop j u) (drop i ms)
 
 module _ (n at m other : ℕ) (s : List ℕ) (i j : ℕ) (ms : List ℕ) where
   abbrev all : Pages
@@ -149,15 +149,15 @@ module _ (n at m other : ℕ) (s : List ℕ) (i j : ℕ) (ms : List ℕ) where
   others = windows_at m other s
 
   -- all windows are done
-  pub less_done : n ≤ i → lessFrom all others i j ms ≡ ms
-  unfolding lessMasks
+  pub less_done : n ≤ i → less_from all others i j ms ≡ ms
+  unfolding less_masks
   less_done h = rw (done_all n at s i h) (take-append-drop i ms)
 
   -- no page of the others is left
-  pub less-over : m ≤ j → lessFrom all others i j ms ≡ ms
-  less-over h = rw (done_all m other s j h, less_none) (take-append-drop i ms)
+  pub less_over : m ≤ j → less_from all others i j ms ≡ ms
+  less_over h = rw (done_all m other s j h, less_none) (take-append-drop i ms)
 
-  module _ (up : rising 0 all ≡ true) (others-up : rising 0 others ≡ true) (hi : i < n) (hj : j < m) (long : i < length ms) where
+  module _ (up : rising 0 all ≡ true) (others_up : rising 0 others ≡ true) (hi : i < n) (hj : j < m) (long : i < length ms) where
     abbrev w : Window
     w = window n at s i
 
@@ -171,35 +171,35 @@ module _ (n at m other : ℕ) (s : List ℕ) (i j : ℕ) (ms : List ℕ) where
     u = drop (j + 1) others
 
     rises : rising (w.index + 1) ws ≡ true
-    rises = rises-on n at s i up hi
+    rises = rises_on n at s i up hi
 
-    others-rise : rising (v.index + 1) u ≡ true
-    others-rise = rises-on m other s j others-up hj
+    others_rise : rising (v.index + 1) u ≡ true
+    others_rise = rises_on m other s j others_up hj
 
-    heads : lessFrom all others i j ms ≡ take i ms ++ lessMasks (w ∷ ws) (v ∷ u) (get_or ms i 0 ∷ drop (i + 1) ms)
-    heads = rw (one_on n at s i hi, one_on m other s j hj, mask-on ms i long)
+    heads : less_from all others i j ms ≡ take i ms ++ less_masks (w ∷ ws) (v ∷ u) (get_or ms i 0 ∷ drop (i + 1) ms)
+    heads = rw (one_on n at s i hi, one_on m other s j hj, mask_on ms i long)
 
     -- a window below the others that are left
-    pub less-lower : w.index < v.index → lessFrom all others (i + 1) j ms ≡ lessFrom all others i j ms
-    less-lower h =
-        mask-passed ms i long (lessMasks ws (drop j others) (drop (i + 1) ms))
-        ∙ ap (λ (x : Pages). take i ms ++ (get_or ms i 0 ∷ lessMasks ws x (drop (i + 1) ms))) (one_on m other s j hj)
-        ∙ ap (λ (l : List ℕ). take i ms ++ l) (sym (first-lower w v ws u (drop (i + 1) ms) rises others-rise (get_or ms i 0) h))
+    pub less_lower : w.index < v.index → less_from all others (i + 1) j ms ≡ less_from all others i j ms
+    less_lower h =
+        mask_passed ms i long (less_masks ws (drop j others) (drop (i + 1) ms))
+        ∙ ap (λ (x : Pages). take i ms ++ (get_or ms i 0 ∷ less_masks ws x (drop (i + 1) ms))) (one_on m other s j hj)
+        ∙ ap (λ (l : List ℕ). take i ms ++ l) (sym (first_lower w v ws u (drop (i + 1) ms) rises others_rise (get_or ms i 0) h))
         ∙ sym heads
 
     -- two windows of one index
-    pub less-same : (k : ℕ) → w.index ≡ v.index → k ≡ without (get_or ms i 0) v.mask → lessFrom all others (i + 1) (j + 1) (set ms i k) ≡ lessFrom all others i j ms
-    less-same k h e =
-        mask-set ms i long k (lessMasks ws u (drop (i + 1) (set ms i k)))
-        ∙ ap (λ (l : List ℕ). take i ms ++ (k ∷ lessMasks ws u l)) (drop-set-lt (i + 1) ms i k (omega arith))
-        ∙ ap (λ (l : List ℕ). take i ms ++ l) (sym (first-same w v ws u (drop (i + 1) ms) rises others-rise (get_or ms i 0) k h e))
+    pub less_same : (k : ℕ) → w.index ≡ v.index → k ≡ without (get_or ms i 0) v.mask → less_from all others (i + 1) (j + 1) (set ms i k) ≡ less_from all others i j ms
+    less_same k h e =
+        mask_set ms i long k (less_masks ws u (drop (i + 1) (set ms i k)))
+        ∙ ap (λ (l : List ℕ). take i ms ++ (k ∷ less_masks ws u l)) (drop-set-lt (i + 1) ms i k (omega arith))
+        ∙ ap (λ (l : List ℕ). take i ms ++ l) (sym (first_same w v ws u (drop (i + 1) ms) rises others_rise (get_or ms i 0) k h e))
         ∙ sym heads
 
     -- a window of the others below those that are left
-    pub less-higher : v.index < w.index → lessFrom all others i (j + 1) ms ≡ lessFrom all others i j ms
-    less-higher h =
-        ap₂ (λ (x : Pages) (l : List ℕ). take i ms ++ lessMasks x u l) (one_on n at s i hi) (mask-on ms i long)
-        ∙ ap (λ (l : List ℕ). take i ms ++ l) (first-higher w v ws u (get_or ms i 0 ∷ drop (i + 1) ms) rises others-rise h)
+    pub less_higher : v.index < w.index → less_from all others i (j + 1) ms ≡ less_from all others i j ms
+    less_higher h =
+        ap₂ (λ (x : Pages) (l : List ℕ). take i ms ++ less_masks x u l) (one_on n at s i hi) (mask_on ms i long)
+        ∙ ap (λ (l : List ℕ). take i ms ++ l) (first_higher w v ws u (get_or ms i 0 ∷ drop (i + 1) ms) rises others_rise h)
         ∙ sym heads
 
 -- ---- the turns of `none_left` and `more`
@@ -208,31 +208,31 @@ less_one : (n i : ℕ) → i < n → n - i ≡ suc (n - (i + 1))
 less_one n i h = omega arith
 
 module _ (n i : ℕ) (ms : List ℕ) where
-  pub none_done : n ≤ i → true ≡ noMasks (n - i) (drop i ms)
-  unfolding noMasks
+  pub none_done : n ≤ i → true ≡ no_masks (n - i) (drop i ms)
+  unfolding no_masks
   none_done h = let e : n - i ≡ 0 = omega arith in rw e
 
   module _ (h : i < n) (long : i < length ms) where
-    pub none_passed : get_or ms i 0 ≡ 0 → noMasks (n - (i + 1)) (drop (i + 1) ms) ≡ noMasks (n - i) (drop i ms)
-    unfolding noMasks
-    none_passed e = rw (less_one n i h, mask-on ms i long, e)
+    pub none_passed : get_or ms i 0 ≡ 0 → no_masks (n - (i + 1)) (drop (i + 1) ms) ≡ no_masks (n - i) (drop i ms)
+    unfolding no_masks
+    none_passed e = rw (less_one n i h, mask_on ms i long, e)
 
-    pub some_left : (get_or ms i 0 ≡ 0 → ⊥) → false ≡ noMasks (n - i) (drop i ms)
-    unfolding noMasks
-    some_left e = rw (less_one n i h, mask-on ms i long, ne_eqb (get_or ms i 0) 0 e)
+    pub some_left : (get_or ms i 0 ≡ 0 → ⊥) → false ≡ no_masks (n - i) (drop i ms)
+    unfolding no_masks
+    some_left e = rw (less_one n i h, mask_on ms i long, ne_eqb (get_or ms i 0) 0 e)
 
 -- the masks, when the first n from i on have the pages of the others
-abbrev pub moreFrom : ℕ → List ℕ → ℕ → List ℕ → List ℕ
-moreFrom n ks i ms = take i ms ++ moreMasks (n - i) (drop i ms) (drop i ks)
+abbrev pub more_from : ℕ → List ℕ → ℕ → List ℕ → List ℕ
+more_from n ks i ms = take i ms ++ more_masks (n - i) (drop i ms) (drop i ks)
 
 module _ (n : ℕ) (ks : List ℕ) (i : ℕ) (ms : List ℕ) where
-  pub more-done : n ≤ i → moreFrom n ks i ms ≡ ms
-  unfolding moreMasks
-  more-done h = let e : n - i ≡ 0 = omega arith in rw e (take-append-drop i ms)
+  pub more_done : n ≤ i → more_from n ks i ms ≡ ms
+  unfolding more_masks
+  more_done h = let e : n - i ≡ 0 = omega arith in rw e (take-append-drop i ms)
 
-  pub more_turn : i < n → i < length ms → i < length ks → moreFrom n ks (i + 1) (set ms i (bit_or (get_or ms i 0) (get_or ks i 0))) ≡ moreFrom n ks i ms
-  unfolding moreMasks
+  pub more_turn : i < n → i < length ms → i < length ks → more_from n ks (i + 1) (set ms i (bit_or (get_or ms i 0) (get_or ks i 0))) ≡ more_from n ks i ms
+  unfolding more_masks
   more_turn h l k =
-      mask-set ms i l (bit_or (get_or ms i 0) (get_or ks i 0)) (moreMasks (n - (i + 1)) (drop (i + 1) (set ms i (bit_or (get_or ms i 0) (get_or ks i 0)))) (drop (i + 1) ks))
-      ∙ ap (λ (x : List ℕ). take i ms ++ (bit_or (get_or ms i 0) (get_or ks i 0) ∷ moreMasks (n - (i + 1)) x (drop (i + 1) ks))) (drop-set-lt (i + 1) ms i (bit_or (get_or ms i 0) (get_or ks i 0)) (omega arith))
-      ∙ rw (less_one n i h, mask-on ms i l, mask-on ks i k)
+      mask_set ms i l (bit_or (get_or ms i 0) (get_or ks i 0)) (more_masks (n - (i + 1)) (drop (i + 1) (set ms i (bit_or (get_or ms i 0) (get_or ks i 0)))) (drop (i + 1) ks))
+      ∙ ap (λ (x : List ℕ). take i ms ++ (bit_or (get_or ms i 0) (get_or ks i 0) ∷ more_masks (n - (i + 1)) x (drop (i + 1) ks))) (drop-set-lt (i + 1) ms i (bit_or (get_or ms i 0) (get_or ks i 0)) (omega arith))
+      ∙ rw (less_one n i h, mask_on ms i l, mask_on ks i k)

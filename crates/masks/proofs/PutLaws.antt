@@ -7,87 +7,87 @@ use borrow.Author.Tests.{lt-ltb}
 use lib.ListN.{length, get_or, drop, set, replicate, length-drop, length-replicate, replicate-append-replicate}
 use Rattle.octets.specs.Bytes.{be, bytes_of, part, put}
 use Rattle.octets.specs.Flat.{flat}
-use Rattle.octets.proofs.Flats.{length-flat}
+use Rattle.octets.proofs.Flats.{length_flat}
 use Rattle.octets.proofs.Numbers as N
 use Rattle.octets.proofs.Places as P
 use Rattle.pageset.specs.declared.Window.{Window}
 use Rattle.rules.specs.Records.{Pages}
-use Rattle.layout.specs.Values.{windowBytes, setBytes}
+use Rattle.layout.specs.Values.{window_bytes, set_bytes}
 use Rattle.setbytes.specs.Laid.{windows_at}
-use Rattle.setbytes.proofs.SetLaws.{length-windows}
-use Rattle.setbytes.proofs.WindowLaws.{window-long, window-stored}
+use Rattle.setbytes.proofs.SetLaws.{length_windows}
+use Rattle.setbytes.proofs.WindowLaws.{window_long, window_stored}
 use Rattle.masks.specs.Masks.{given}
-use Rattle.masks.proofs.MaskLaws.{done_all, one_on, mask-on}
+use Rattle.masks.proofs.MaskLaws.{done_all, one_on, mask_on}
 
 -- ---- what the windows from i on give
 
-abbrev pub givenFrom : ℕ → ℕ → List ℕ → List ℕ → ℕ → Pages
-givenFrom n at s ms i = given (drop i (windows_at n at s)) (drop i ms)
+abbrev pub given_from : ℕ → ℕ → List ℕ → List ℕ → ℕ → Pages
+given_from n at s ms i = given (drop i (windows_at n at s)) (drop i ms)
 
 abbrev pub spelled : Pages → List ℕ
-spelled ws = flat windowBytes.spell ws
+spelled ws = flat window_bytes.spell ws
 
-pub length-spelled : (ws : Pages) → length (spelled ws) ≡ 12 * length ws
-length-spelled ws = length-flat 12 windowBytes.spell window-long ws
+pub length_spelled : (ws : Pages) → length (spelled ws) ≡ 12 * length ws
+length_spelled ws = length_flat 12 window_bytes.spell window_long ws
 
-given-few : (ws : Pages) (ms : List ℕ) → length (given ws ms) ≤ length ws
+given_few : (ws : Pages) (ms : List ℕ) → length (given ws ms) ≤ length ws
 unfolding given
-given-few [] ms = omega arith
-given-few (w ∷ ws) [] = omega arith
-given-few (w ∷ ws) (zero ∷ ms) = omega (arith, given-few ws ms)
-given-few (w ∷ ws) (suc m ∷ ms) = rw (lt-ltb 0 (suc m) (omega arith)) (omega (arith, given-few ws ms))
+given_few [] ms = omega arith
+given_few (w ∷ ws) [] = omega arith
+given_few (w ∷ ws) (zero ∷ ms) = omega (arith, given_few ws ms)
+given_few (w ∷ ws) (suc m ∷ ms) = rw (lt-ltb 0 (suc m) (omega arith)) (omega (arith, given_few ws ms))
 
 module _ (n at : ℕ) (s ms : List ℕ) (i : ℕ) where
-  pub left-few : length (givenFrom n at s ms i) ≤ n - i
-  left-few = omega (arith, given-few (drop i (windows_at n at s)) (drop i ms), length-drop i (windows_at n at s), length-windows n at s)
+  pub left_few : length (given_from n at s ms i) ≤ n - i
+  left_few = omega (arith, given_few (drop i (windows_at n at s)) (drop i ms), length-drop i (windows_at n at s), length_windows n at s)
 
-  pub left-none : n ≤ i → givenFrom n at s ms i ≡ []
+  pub left_none : n ≤ i → given_from n at s ms i ≡ []
   unfolding given
-  left-none h = rw (done_all n at s i h)
+  left_none h = rw (done_all n at s i h)
 
   module _ (h : i < n) (long : i < length ms) where
-    pub left_out : get_or ms i 0 ≡ 0 → givenFrom n at s ms (i + 1) ≡ givenFrom n at s ms i
+    pub left_out : get_or ms i 0 ≡ 0 → given_from n at s ms (i + 1) ≡ given_from n at s ms i
     unfolding given
-    left_out e = rw (one_on n at s i h, mask-on ms i long, e)
+    left_out e = rw (one_on n at s i h, mask_on ms i long, e)
 
-    pub left_in : (get_or ms i 0 ≡ 0 → ⊥) → givenFrom n at s ms i ≡ record { index = be (part (at + i * 12) 4 s); mask = get_or ms i 0 } ∷ givenFrom n at s ms (i + 1)
+    pub left_in : (get_or ms i 0 ≡ 0 → ⊥) → given_from n at s ms i ≡ record { index = be (part (at + i * 12) 4 s); mask = get_or ms i 0 } ∷ given_from n at s ms (i + 1)
     unfolding given
-    left_in e = rw (one_on n at s i h, mask-on ms i long, lt-ltb 0 (get_or ms i 0) (omega arith))
+    left_in e = rw (one_on n at s i h, mask_on ms i long, lt-ltb 0 (get_or ms i 0) (omega arith))
 
 -- ---- stores
 
-pub none-put : (at : ℕ) (l : List ℕ) → put at (spelled []) l ≡ l
+pub none_put : (at : ℕ) (l : List ℕ) → put at (spelled []) l ≡ l
 unfolding flat
-none-put at l = P.put-none at l
+none_put at l = P.put_none at l
 
 -- a window more, by its two stores
-pub window-put : (to w : ℕ) (x : Window) (rest : Pages) (l t u : List ℕ) → to + w * 12 + 12 + 12 * length rest ≤ length l → t ≡ put (to + w * 12) (bytes_of 4 x.index) l
+pub window_put : (to w : ℕ) (x : Window) (rest : Pages) (l t u : List ℕ) → to + w * 12 + 12 + 12 * length rest ≤ length l → t ≡ put (to + w * 12) (bytes_of 4 x.index) l
     → u ≡ put (to + w * 12 + 4) (bytes_of 8 x.mask) t → put (to + (w + 1) * 12) (spelled rest) u ≡ put (to + w * 12) (spelled (x ∷ rest)) l
 unfolding flat
-window-put to w x rest l t u h p q =
+window_put to w x rest l t u h p q =
     let e : to + (w + 1) * 12 ≡ to + w * 12 + 12 = omega arith in
-    ap₂ (λ (k : ℕ) (y : List ℕ). put k (spelled rest) y) e (window-stored (to + w * 12) x l t u (omega arith) p q)
-    ∙ P.put_next (to + w * 12) 12 (12 * length rest) (windowBytes.spell x) (spelled rest) l (window-long x) (length-spelled rest) h
+    ap₂ (λ (k : ℕ) (y : List ℕ). put k (spelled rest) y) e (window_stored (to + w * 12) x l t u (omega arith) p q)
+    ∙ P.put_next (to + w * 12) 12 (12 * length rest) (window_bytes.spell x) (spelled rest) l (window_long x) (length_spelled rest) h
 
 -- a zero more
-pub zero-put : (to i : ℕ) (l t : List ℕ) → to + i < length l → t ≡ put to (replicate i 0) l → set t (to + i) 0 ≡ put to (replicate (i + 1) 0) l
-zero-put to i l t h e =
+pub zero_put : (to i : ℕ) (l t : List ℕ) → to + i < length l → t ≡ put to (replicate i 0) l → set t (to + i) 0 ≡ put to (replicate (i + 1) 0) l
+zero_put to i l t h e =
     let r = length-replicate {A = ℕ} i 0 in
     ap (λ (x : List ℕ). set x (to + i) 0) e
-    ∙ sym (P.put_one (to + i) 0 (put to (replicate i 0) l) (omega (arith, P.length-put to (replicate i 0) l (omega arith))))
+    ∙ sym (P.put_one (to + i) 0 (put to (replicate i 0) l) (omega (arith, P.length_put to (replicate i 0) l (omega arith))))
     ∙ P.put_next to i 1 (replicate i 0) (0 ∷ []) l r refl (omega arith)
     ∙ ap (λ (x : List ℕ). put to x l) (replicate-append-replicate i 1 0)
 
 -- the windows, the zeros behind them, and the count in front
-pub set-put : (to : ℕ) (ws : Pages) (n : ℕ) (l t u v : List ℕ) → n ≡ length ws → n ≤ 32 → to + 385 ≤ length l → t ≡ put (to + 1) (spelled ws) l
-    → u ≡ put (to + 1 + n * 12) (replicate ((32 - n) * 12) 0) t → v ≡ put to (bytes_of 1 n) u → v ≡ put to (setBytes.spell ws) l
-unfolding setBytes windowBytes
-set-put to ws n l t u v e h room p q r =
+pub set_put_lem : (to : ℕ) (ws : Pages) (n : ℕ) (l t u v : List ℕ) → n ≡ length ws → n ≤ 32 → to + 385 ≤ length l → t ≡ put (to + 1) (spelled ws) l
+    → u ≡ put (to + 1 + n * 12) (replicate ((32 - n) * 12) 0) t → v ≡ put to (bytes_of 1 n) u → v ≡ put to (set_bytes.spell ws) l
+unfolding set_bytes window_bytes
+set_put_lem to ws n l t u v e h room p q r =
     let z : List ℕ = replicate ((32 - n) * 12) 0 in
-    let a : length (spelled ws) ≡ n * 12 = omega (arith, length-spelled ws) in
+    let a : length (spelled ws) ≡ n * 12 = omega (arith, length_spelled ws) in
     let b : length z ≡ (32 - n) * 12 = length-replicate ((32 - n) * 12) 0 in
     let c : length (spelled ws ++ z) ≡ 384 = P.length_two (n * 12) ((32 - n) * 12) (spelled ws) z a b ∙ omega arith in
     r
     ∙ ap (put to (bytes_of 1 n)) (P.chain (to + 1) (n * 12) ((32 - n) * 12) (spelled ws) z l t u a b (omega arith) p q)
-    ∙ P.put_front to 1 384 (bytes_of 1 n) (spelled ws ++ z) l (N.length-bytesOf 1 n) c (omega arith)
+    ∙ P.put_front to 1 384 (bytes_of 1 n) (spelled ws ++ z) l (N.length_bytes_of 1 n) c (omega arith)
     ∙ ap (λ (k : ℕ). put to (bytes_of 1 k ++ (spelled ws ++ replicate ((32 - k) * 12) 0)) l) e

@@ -4,9 +4,9 @@ ghost use Rattle.octets.specs.Bytes.{put};
 ghost use Rattle.octets.specs.Flat.{flat};
 ghost use Rattle.pageset.specs.Sets.{rising};
 ghost use Rattle.rules.specs.Pages.{up_to};
-ghost use Rattle.layout.specs.Values.{windowBytes, setBytes};
+ghost use Rattle.layout.specs.Values.{window_bytes, set_bytes};
 ghost use Rattle.setbytes.specs.Laid.{windows_at};
-ghost use Rattle.masks.specs.Masks.{given, lessMasks, moreMasks, noMasks};
+ghost use Rattle.masks.specs.Masks.{given, less_masks, more_masks, no_masks};
 
 use octets::{load32, load64, store8, store32, store64};
 
@@ -27,7 +27,7 @@ pub fn kept(index: u32, mask: u64, count: u32) -> u64
 pub fn less(s: &[u8], at: usize, n: usize, masks: &mut [u64], other: usize, m: usize)
     requires n_in_bounds { (at + n * 12 ≤ length s.now) × (other + m * 12 ≤ length s.now) × (n ≤ 32) × (m ≤ 32) × (length masks.old ≡ 32) }
     requires s_value { (rising 0 (windows_at n at s.now) ≡ true) × (rising 0 (windows_at m other s.now) ≡ true) }
-    ensures { masks.new ≡ lessMasks (windows_at n at s.now) (windows_at m other s.now) masks.old }
+    ensures { masks.new ≡ less_masks (windows_at n at s.now) (windows_at m other s.now) masks.old }
 {
     let mut i: usize = 0;
     let mut j: usize = 0;
@@ -54,7 +54,7 @@ pub fn less(s: &[u8], at: usize, n: usize, masks: &mut [u64], other: usize, m: u
 // Whether the first n masks have no page.
 pub fn none_left(masks: &[u64], n: usize) -> bool
     requires { (n ≤ 32) × (length masks.now ≡ 32) }
-    ensures { result ≡ noMasks n masks.now }
+    ensures { result ≡ no_masks n masks.now }
 {
     let mut i: usize = 0;
     while i < n {
@@ -69,7 +69,7 @@ pub fn none_left(masks: &[u64], n: usize) -> bool
 // The first n masks with the pages of n others.
 pub fn more(masks: &mut [u64], others: &[u64], n: usize)
     requires { (n ≤ 32) × (length masks.old ≡ 32) × (length others.now ≡ 32) }
-    ensures { masks.new ≡ moreMasks n masks.old others.now }
+    ensures { masks.new ≡ more_masks n masks.old others.now }
 {
     let mut i: usize = 0;
     while i < n {
@@ -82,7 +82,7 @@ pub fn more(masks: &mut [u64], others: &[u64], n: usize)
 fn put_windows(list: &mut [u8], to: usize, s: &[u8], at: usize, n: usize, masks: &[u64]) -> usize
     requires { (to + n * 12 ≤ length list.old) × (at + n * 12 ≤ length s.now) × (n ≤ 32) × (length masks.now ≡ 32) }
     ensures value { (result ≡ length (given (windows_at n at s.now) masks.now)) × (result ≤ n) }
-    ensures list_after { list.new ≡ put to (flat windowBytes.spell (given (windows_at n at s.now) masks.now)) list.old }
+    ensures list_after { list.new ≡ put to (flat window_bytes.spell (given (windows_at n at s.now) masks.now)) list.old }
 {
     let mut w: usize = 0;
     let mut i: usize = 0;
@@ -114,7 +114,7 @@ fn put_zeros(list: &mut [u8], to: usize, n: usize)
 // The set of the windows with masks of their own, those without a page left out, over 385 bytes of the list.
 pub fn put_given(list: &mut [u8], to: usize, s: &[u8], at: usize, n: usize, masks: &[u64])
     requires { (to + 385 ≤ length list.old) × (at + n * 12 ≤ length s.now) × (n ≤ 32) × (length masks.now ≡ 32) }
-    ensures { list.new ≡ put to (setBytes.spell (given (windows_at n at s.now) masks.now)) list.old }
+    ensures { list.new ≡ put to (set_bytes.spell (given (windows_at n at s.now) masks.now)) list.old }
 {
     let w = put_windows(list, to + 1, s, at, n, masks);
     put_zeros(list, to + 1 + w * 12, (32 - w) * 12);

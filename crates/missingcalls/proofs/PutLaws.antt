@@ -1,24 +1,24 @@
 -- Missing frames as entries of a lent list. A list is filled entry by entry as far as it has places, and all entries are counted (`Filling`); what the frames of one item leave joins
--- what was put before (`put-run`). Assumes nothing.
+-- what was put before (`put_run`). Assumes nothing.
 use Rattle.std.proofs.Common.{◌≡◌, ℕ, ◌+◌, ◌-◌, ◌*◌, ◌/◌, ◌<◌, ◌≤◌, Bool, true, false, cond, leb, List, [], ◌∷◌, ◌++◌, length, take, drop, sym, refl, ap, ◌∙◌, subst, append_assoc, append-nil, arith, length-append, take_all, le-leb, leb-false, leb-true}
 use borrow.Author.Tests.{lt-leb}
 use lib.Seq.{take-append-le, take-nil}
 use Rattle.octets.specs.Bytes.{put}
 use Rattle.octets.specs.Flat.{flat}
-use Rattle.octets.proofs.Places.{Stored, then-stored, length-put, put-none}
+use Rattle.octets.proofs.Places.{Stored, then_stored, length_put, put_none}
 use Rattle.rules.specs.Records as R
 use Rattle.rules.specs.Tables.{Table}
 use Rattle.rules.specs.Frames.{Part}
-use Rattle.rules.specs.Walk.{isMissing}
-use Rattle.layout.specs.Values.{partBytes}
-use Rattle.resultlists.proofs.EntryLaws.{flat_append, flat-one, run-listed, slots-room}
-use Rattle.resultlists.proofs.Putting.{Putting, put-length}
-use Rattle.missingcalls.specs.Cursors.{framesLeft}
+use Rattle.rules.specs.Walk.{is_missing}
+use Rattle.layout.specs.Values.{part_bytes}
+use Rattle.resultlists.proofs.EntryLaws.{flat_append, flat_one, run_listed, slots_room}
+use Rattle.resultlists.proofs.Putting.{Putting, put_length}
+use Rattle.missingcalls.specs.Cursors.{frames_left}
 use Rattle.missingcalls.specs.Entries.{entered, Entries}
-use Rattle.missingcalls.proofs.FrameLaws.{frame-yes, frame-no}
+use Rattle.missingcalls.proofs.FrameLaws.{frame_yes, frame_no}
 
 abbrev spell : Part → List ℕ
-spell x = partBytes.spell x
+spell x = part_bytes.spell x
 
 module _ (was : List ℕ) (from : ℕ) (all : List Part) where
   -- the places from number `from` on
@@ -35,7 +35,7 @@ module _ (was : List ℕ) (from : ℕ) (all : List Part) where
 
   none_yet : Entries from [] was was
   unfolding flat
-  none_yet = record { long = refl; bytes = sym (put-none (from * 417) was) }
+  none_yet = record { long = refl; bytes = sym (put_none (from * 417) was) }
 
   pub fill_start : Filling from was all
   fill_start = record { front = []; whole = refl; number = omega arith; kept = refl; stands = subst (λ (l : List Part). Entries from l was was) (sym (take-nil room)) none_yet }
@@ -44,41 +44,41 @@ module _ (was : List ℕ) (from : ℕ) (all : List Part) where
     abbrev more : List Part
     more = p.front ++ (x ∷ [])
 
-    more-long : length more ≡ length p.front + 1
-    more-long = length-append p.front (x ∷ [])
+    more_long : length more ≡ length p.front + 1
+    more_long = length-append p.front (x ∷ [])
 
     -- there is a place for it
-    fill-put : length (spell x) ≡ 417 → to < length was / 417 → Filling (to + 1) (put (to * 417) (spell x) t) rest
-    fill-put long h =
+    fill_put : length (spell x) ≡ 417 → to < length was / 417 → Filling (to + 1) (put (to * 417) (spell x) t) rest
+    fill_put long h =
         let k = p.number in
         let a : take room p.front ≡ p.front = take_all room p.front (omega arith) in
-        let b : take room more ≡ more = take_all room more (omega (arith, more-long)) in
+        let b : take room more ≡ more = take_all room more (omega (arith, more_long)) in
         let before = subst (λ (l : List Part). Entries from l was t) a p.stands in
-        let fits : (to + 1) * 417 ≤ length was = slots-room 417 (to + 1) was (omega arith) in
+        let fits : (to + 1) * 417 ≤ length was = slots_room 417 (to + 1) was (omega arith) in
         let old : Stored (from * 417) (length p.front * 417) (flat spell p.front) was t = record { long = before.long; bytes = before.bytes } in
         let place : to * 417 ≡ from * 417 + length p.front * 417 = omega arith in
-        let now = then-stored old 417 (spell x) long (omega arith) (ap (λ (n : ℕ). put n (spell x) t) place) in
-        let joined : flat spell more ≡ flat spell p.front ++ spell x = flat_append spell p.front (x ∷ []) ∙ ap (λ (l : List ℕ). flat spell p.front ++ l) (flat-one spell x) in
-        let total : length p.front * 417 + 417 ≡ length more * 417 = omega (arith, more-long) in
+        let now = then_stored old 417 (spell x) long (omega arith) (ap (λ (n : ℕ). put n (spell x) t) place) in
+        let joined : flat spell more ≡ flat spell p.front ++ spell x = flat_append spell p.front (x ∷ []) ∙ ap (λ (l : List ℕ). flat spell p.front ++ l) (flat_one spell x) in
+        let total : length p.front * 417 + 417 ≡ length more * 417 = omega (arith, more_long) in
         record {
           front = more;
           whole = append_assoc p.front (x ∷ []) rest ∙ p.whole;
-          number = omega (arith, more-long);
-          kept = length-put (to * 417) (spell x) t (omega (arith, p.kept)) ∙ p.kept;
+          number = omega (arith, more_long);
+          kept = length_put (to * 417) (spell x) t (omega (arith, p.kept)) ∙ p.kept;
           stands =
               subst (λ (l : List Part). Entries from l was (put (to * 417) (spell x) t)) (sym b)
               (record { long = ap length joined ∙ now.long ∙ total; bytes = now.bytes ∙ ap (λ (l : List ℕ). put (from * 417) l was) (sym joined) });
         }
 
     -- there is none
-    fill-skip : length was / 417 ≤ to → Filling (to + 1) t rest
-    fill-skip h =
+    fill_skip : length was / 417 ≤ to → Filling (to + 1) t rest
+    fill_skip h =
         let k = p.number in
         let b : take room more ≡ take room p.front = take-append-le room p.front (x ∷ []) (omega arith) in
         record {
           front = more;
           whole = append_assoc p.front (x ∷ []) rest ∙ p.whole;
-          number = omega (arith, more-long);
+          number = omega (arith, more_long);
           kept = p.kept;
           stands = subst (λ (l : List Part). Entries from l was t) (sym b) p.stands;
         }
@@ -88,67 +88,67 @@ module _ (was : List ℕ) (from : ℕ) (all : List Part) where
     ended : p.front ≡ all
     ended = sym (append-nil p.front) ∙ ap (λ (r : List Part). p.front ++ r) (sym e) ∙ p.whole
 
-    pub fill-number : to ≡ from + length all
-    fill-number = p.number ∙ ap (λ (l : List Part). from + length l) ended
+    pub fill_number : to ≡ from + length all
+    fill_number = p.number ∙ ap (λ (l : List Part). from + length l) ended
 
     pub fill_end : Entries from (take room all) was t
     fill_end = subst (λ (l : List Part). Entries from (take room l) was t) ended p.stands
 
 -- a frame more
 module _ (ps : Table R.Present) (g : R.Pages) (fs : List Part) (was : List ℕ) (from : ℕ) where
-  module _ (j to : ℕ) (t : List ℕ) (x : Part) (e : drop j fs ≡ x ∷ drop (j + 1) fs) (long : length (spell x) ≡ 417) (p : Filling was from (framesLeft ps g fs 0) to t (framesLeft ps g fs j)) where
-    placed_by : (m : isMissing ps g x ≡ true) (l : Bool) → leb (length t / 417) to ≡ l → Filling was from (framesLeft ps g fs 0) (to + 1) (cond l t (put (to * 417) (spell x) t)) (framesLeft ps g fs (j + 1))
+  module _ (j to : ℕ) (t : List ℕ) (x : Part) (e : drop j fs ≡ x ∷ drop (j + 1) fs) (long : length (spell x) ≡ 417) (p : Filling was from (frames_left ps g fs 0) to t (frames_left ps g fs j)) where
+    placed_by : (m : is_missing ps g x ≡ true) (l : Bool) → leb (length t / 417) to ≡ l → Filling was from (frames_left ps g fs 0) (to + 1) (cond l t (put (to * 417) (spell x) t)) (frames_left ps g fs (j + 1))
     placed_by m l q =
         let d : length t / 417 ≡ length was / 417 = ap (λ (n : ℕ). n / 417) p.kept in
-        let f = subst (Filling was from (framesLeft ps g fs 0) to t) (frame-yes ps g fs j x e m) p in
+        let f = subst (Filling was from (frames_left ps g fs 0) to t) (frame_yes ps g fs j x e m) p in
         by l q d f
       where
-        by : (l : Bool) → leb (length t / 417) to ≡ l → length t / 417 ≡ length was / 417 → Filling was from (framesLeft ps g fs 0) to t (x ∷ framesLeft ps g fs (j + 1))
-            → Filling was from (framesLeft ps g fs 0) (to + 1) (cond l t (put (to * 417) (spell x) t)) (framesLeft ps g fs (j + 1))
-        by true q d f = fill-skip was from (framesLeft ps g fs 0) to t x (framesLeft ps g fs (j + 1)) f (omega (arith, leb-true (length t / 417) to q))
-        by false q d f = fill-put was from (framesLeft ps g fs 0) to t x (framesLeft ps g fs (j + 1)) f long (omega (arith, leb-false (length t / 417) to q))
+        by : (l : Bool) → leb (length t / 417) to ≡ l → length t / 417 ≡ length was / 417 → Filling was from (frames_left ps g fs 0) to t (x ∷ frames_left ps g fs (j + 1))
+            → Filling was from (frames_left ps g fs 0) (to + 1) (cond l t (put (to * 417) (spell x) t)) (frames_left ps g fs (j + 1))
+        by true q d f = fill_skip was from (frames_left ps g fs 0) to t x (frames_left ps g fs (j + 1)) f (omega (arith, leb-true (length t / 417) to q))
+        by false q d f = fill_put was from (frames_left ps g fs 0) to t x (frames_left ps g fs (j + 1)) f long (omega (arith, leb-false (length t / 417) to q))
 
-    entered_by : (m : Bool) → isMissing ps g x ≡ m → Filling was from (framesLeft ps g fs 0) (entered m to x t).0 (entered m to x t).1 (framesLeft ps g fs (j + 1))
+    entered_by : (m : Bool) → is_missing ps g x ≡ m → Filling was from (frames_left ps g fs 0) (entered m to x t).0 (entered m to x t).1 (frames_left ps g fs (j + 1))
     entered_by true m = placed_by m (leb (length t / 417) to) refl
-    entered_by false m = subst (Filling was from (framesLeft ps g fs 0) to t) (frame-no ps g fs j x e m) p
+    entered_by false m = subst (Filling was from (frames_left ps g fs 0) to t) (frame_no ps g fs j x e m) p
 
-    pub fill_frame : (r : ℕ) (u : List ℕ) → (r, u) ≡ entered (isMissing ps g x) to x t → Filling was from (framesLeft ps g fs 0) r u (framesLeft ps g fs (j + 1))
-    fill_frame r u q = subst (λ (y : ℕ × List ℕ). Filling was from (framesLeft ps g fs 0) y.0 y.1 (framesLeft ps g fs (j + 1))) (sym q) (entered_by (isMissing ps g x) refl)
+    pub fill_frame : (r : ℕ) (u : List ℕ) → (r, u) ≡ entered (is_missing ps g x) to x t → Filling was from (frames_left ps g fs 0) r u (frames_left ps g fs (j + 1))
+    fill_frame r u q = subst (λ (y : ℕ × List ℕ). Filling was from (frames_left ps g fs 0) y.0 y.1 (frames_left ps g fs (j + 1))) (sym q) (entered_by (is_missing ps g x) refl)
 
 -- ---- one frame, at each way out of the code
 
 module _ (m : Bool) (to : ℕ) (x : Part) (was : List ℕ) where
-  pub entered-not : m ≡ false → (to, was) ≡ entered m to x was
-  entered-not e = rw e
+  pub entered_not : m ≡ false → (to, was) ≡ entered m to x was
+  entered_not e = rw e
 
-  pub entered-past : m ≡ true → length was / 417 ≤ to → (to + 1, was) ≡ entered m to x was
-  entered-past e h = rw (e, le-leb (length was / 417) to h)
+  pub entered_past : m ≡ true → length was / 417 ≤ to → (to + 1, was) ≡ entered m to x was
+  entered_past e h = rw (e, le-leb (length was / 417) to h)
 
-  pub entered-put : m ≡ true → to < length was / 417 → (u : List ℕ) → u ≡ put (to * 417) (spell x) was → (to + 1, u) ≡ entered m to x was
-  entered-put e h u q = rw (e, lt-leb (length was / 417) to h, q)
+  pub entered_put : m ≡ true → to < length was / 417 → (u : List ℕ) → u ≡ put (to * 417) (spell x) was → (to + 1, u) ≡ entered m to x was
+  entered_put e h u q = rw (e, lt-leb (length was / 417) to h, q)
 
 -- the number goes up by one at most
-pub entered-next : (m : Bool) (to : ℕ) (x : Part) (t : List ℕ) (r : ℕ) (u : List ℕ) → (r, u) ≡ entered m to x t → r ≤ to + 1
-entered-next true to x t r u q = omega (arith, ap (λ (y : ℕ × List ℕ). y.0) q)
-entered-next false to x t r u q = omega (arith, ap (λ (y : ℕ × List ℕ). y.0) q)
+pub entered_next : (m : Bool) (to : ℕ) (x : Part) (t : List ℕ) (r : ℕ) (u : List ℕ) → (r, u) ≡ entered m to x t → r ≤ to + 1
+entered_next true to x t r u q = omega (arith, ap (λ (y : ℕ × List ℕ). y.0) q)
+entered_next false to x t r u q = omega (arith, ap (λ (y : ℕ × List ℕ). y.0) q)
 
 -- ---- the frames of one item after another
 
-module _ (was : List ℕ) (all : List Part) (n : ℕ) (t : List ℕ) (l rest : List Part) (p : Putting partBytes 417 was all n t (l ++ rest)) where
-  pub run-few : n + length l + length rest ≡ length all
-  run-few = omega (arith, p.number, ap length p.whole, length-append p.front (l ++ rest), length-append l rest)
+module _ (was : List ℕ) (all : List Part) (n : ℕ) (t : List ℕ) (l rest : List Part) (p : Putting part_bytes 417 was all n t (l ++ rest)) where
+  pub run_few : n + length l + length rest ≡ length all
+  run_few = omega (arith, p.number, ap length p.whole, length-append p.front (l ++ rest), length-append l rest)
 
-  pub put-run : length all ≤ length was / 417 → (r : ℕ) (u : List ℕ) → r ≡ n + length l → Entries n (take (length t / 417 - n) l) t u → Putting partBytes 417 was all r u rest
-  put-run places r u q e =
+  pub put_run : length all ≤ length was / 417 → (r : ℕ) (u : List ℕ) → r ≡ n + length l → Entries n (take (length t / 417 - n) l) t u → Putting part_bytes 417 was all r u rest
+  put_run places r u q e =
       let k = p.number in
-      let d : length t / 417 ≡ length was / 417 = ap (λ (m : ℕ). m / 417) (put-length partBytes 417 was all n t (l ++ rest) p places) in
-      let a : take (length t / 417 - n) l ≡ l = take_all (length t / 417 - n) l (omega (arith, run-few)) in
+      let d : length t / 417 ≡ length was / 417 = ap (λ (m : ℕ). m / 417) (put_length part_bytes 417 was all n t (l ++ rest) p places) in
+      let a : take (length t / 417 - n) l ≡ l = take_all (length t / 417 - n) l (omega (arith, run_few)) in
       let entries = subst (λ (m : List Part). Entries n m t u) a e in
       record {
         front = p.front ++ l;
         whole = append_assoc p.front l rest ∙ p.whole;
         number = omega (arith, length-append p.front l);
         listed =
-            run-listed partBytes 417 was p.front l t u p.listed entries.long (slots-room 417 (length p.front + length l) was (omega (arith, run-few)))
+            run_listed part_bytes 417 was p.front l t u p.listed entries.long (slots_room 417 (length p.front + length l) was (omega (arith, run_few)))
             (entries.bytes ∙ ap (λ (m : ℕ). put (m * 417) (flat spell l) t) k);
       }

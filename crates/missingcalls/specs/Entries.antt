@@ -3,11 +3,11 @@ use Rattle.std.specs.Prelude.{◌≡◌, ℕ, ◌+◌, ◌*◌, ◌/◌, Bool, c
 use Rattle.octets.specs.Bytes.{put}
 use Rattle.octets.specs.Flat.{flat}
 use Rattle.rules.specs.Frames.{Part}
-use Rattle.layout.specs.Values.{partBytes}
+use Rattle.layout.specs.Values.{part_bytes}
 
 -- an entry is put where the list has a place for it
 abbrev pub placed : ℕ → Part → List ℕ → List ℕ
-placed to x was = cond (nat_le (length was / 417) to) was (put (to * 417) (partBytes.spell x) was)
+placed to x was = cond (nat_le (length was / 417) to) was (put (to * 417) (part_bytes.spell x) was)
 
 -- one that is asked for is entered, and the next number is one more
 abbrev pub entered : Bool → ℕ → Part → List ℕ → ℕ × List ℕ
@@ -15,5 +15,5 @@ entered asked to x was = cond asked (to + 1, placed to x was) (to, was)
 
 -- the entries of l stand from number `from` on, and each fills its bytes
 pub record Entries (from : ℕ) (l : List Part) (was t : List ℕ) : Type 0 where
-  pub long : length (flat partBytes.spell l) ≡ length l * 417
-  pub bytes : t ≡ put (from * 417) (flat partBytes.spell l) was
+  pub long : length (flat part_bytes.spell l) ≡ length l * 417
+  pub bytes : t ≡ put (from * 417) (flat part_bytes.spell l) was

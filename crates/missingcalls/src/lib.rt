@@ -4,23 +4,23 @@ ghost use Rattle.std.specs.Prelude.{◌≡◌, ◌+◌, ◌-◌, ◌/◌, ◌<�
 ghost use Rattle.octets.specs.Bytes.{put};
 ghost use Rattle.octets.specs.Flat.{flat};
 ghost use Rattle.pageset.specs.Sets.{shown, normal};
-ghost use Rattle.rules.specs.Walk.{isMissing, missingOf, missingFrames};
-ghost use Rattle.commit.specs.Says.{rangeSays};
-ghost use Rattle.layout.specs.Values.{partBytes};
-ghost use Rattle.layout.specs.Tables.{commitsIn, commitsOk, presenceIn, presenceOk};
+ghost use Rattle.rules.specs.Walk.{is_missing, missing_of, missing_frames};
+ghost use Rattle.commit.specs.Says.{range_says};
+ghost use Rattle.layout.specs.Values.{part_bytes};
+ghost use Rattle.layout.specs.Tables.{commits_in, commits_ok, presence_in, presence_ok};
 ghost use Rattle.layout.specs.Lent.{lent};
-ghost use Rattle.gifts.specs.Paths.{placesIn, Inside};
-ghost use Rattle.gifts.specs.Steps.{itemsFrom};
-ghost use Rattle.resultlists.specs.Lists.{slotsIn, listLeft};
-ghost use Rattle.resultlists.specs.Snapshots.{onSnapshot};
-ghost use Rattle.missingcalls.specs.Cursors.{SoundAt, Sound, framesAt, framesLeft, NextFrame, startCursor, missingLeft, NextMissing};
+ghost use Rattle.gifts.specs.Paths.{places_in, Inside};
+ghost use Rattle.gifts.specs.Steps.{items_from};
+ghost use Rattle.resultlists.specs.Lists.{slots_in, list_left};
+ghost use Rattle.resultlists.specs.Snapshots.{on_snapshot};
+ghost use Rattle.missingcalls.specs.Cursors.{SoundAt, Sound, frames_at, frames_left, NextFrame, start_cursor, missing_left, NextMissing};
 ghost use Rattle.missingcalls.specs.Entries.{entered, Entries};
 
 use arguments::Reply;
 use arguments::snapshots::snapshot_arg;
 use commit::SegmentRange;
 use commits::{Place, commits_formed, row};
-use core::page_count::{MaybePage, PageCount};
+use basics::page_count::{MaybePage, PageCount};
 use entries::presence_formed;
 use gifts::next_set;
 use gifts::paths::{Path, path_of};
@@ -59,8 +59,8 @@ pub struct FrameStep {
 
 // Whether a frame meets a gift, and the first page of its set is not present.
 fn is_missing(presence: &[u8], range: SegmentRange, gift: PageSet) -> bool
-    requires { (presenceOk presence.now ≡ true) × (normal range.pages ≡ true) × (normal gift ≡ true) }
-    ensures { result ≡ isMissing (presenceIn presence.now) (shown gift) (rangeSays range) }
+    requires { (presence_ok presence.now ≡ true) × (normal range.pages ≡ true) × (normal gift ≡ true) }
+    ensures { result ≡ is_missing (presence_in presence.now) (shown gift) (range_says range) }
 {
     let sid = range.sid;
     let pages = range.pages;
@@ -78,8 +78,8 @@ fn is_missing(presence: &[u8], range: SegmentRange, gift: PageSet) -> bool
 
 // The next missing frame of record i, which has a segment, from a number on.
 fn next_frame(commits: &[u8], presence: &[u8], i: usize, gift: PageSet, from: usize) -> FrameStep
-    requires { (commitsOk commits.now ≡ true) × (presenceOk presence.now ≡ true) × SoundAt commits.now (Place.At i) × (normal gift ≡ true) }
-    ensures { NextFrame (presenceIn presence.now) (shown gift) (framesAt commits.now i) from result }
+    requires { (commits_ok commits.now ≡ true) × (presence_ok presence.now ≡ true) × SoundAt commits.now (Place.At i) × (normal gift ≡ true) }
+    ensures { NextFrame (presence_in presence.now) (shown gift) (frames_at commits.now i) from result }
 {
     let at = row(commits, i) + 63;
     let n = frames_count(commits, at + 401);
@@ -105,8 +105,8 @@ fn next_frame(commits: &[u8], presence: &[u8], i: usize, gift: PageSet, from: us
 
 // The first missing frame of the items from a number of the path on. The notes know nothing of the commits before it.
 fn next_item(commits: &[u8], presence: &[u8], path: Path, count: PageCount, from: usize) -> Missing
-    requires { (commitsOk commits.now ≡ true) × (presenceOk presence.now ≡ true) × Inside commits.now (placesIn path.runs) }
-    ensures { NextMissing commits.now (presenceIn presence.now) count.0 (placesIn path.runs) (missingOf (presenceIn presence.now) (itemsFrom commits.now count.0 (placesIn path.runs) from)) result }
+    requires { (commits_ok commits.now ≡ true) × (presence_ok presence.now ≡ true) × Inside commits.now (places_in path.runs) }
+    ensures { NextMissing commits.now (presence_in presence.now) count.0 (places_in path.runs) (missing_of (presence_in presence.now) (items_from commits.now count.0 (places_in path.runs) from)) result }
 {
     let mut tags = [4294967295u32; 64];
     let mut masks = [0u64; 64];
@@ -148,7 +148,7 @@ fn next_item(commits: &[u8], presence: &[u8], path: Path, count: PageCount, from
 
 // The listing before its first frame.
 pub fn start() -> Cursor
-    ensures { result ≡ startCursor }
+    ensures { result ≡ start_cursor }
 {
     let gift = sets::empty();
     Cursor {
@@ -167,8 +167,8 @@ pub fn next_missing(
     count: PageCount,
     c: Cursor,
 ) -> Missing
-    requires { (commitsOk commits.now ≡ true) × (presenceOk presence.now ≡ true) × Inside commits.now (placesIn path.runs) × Sound commits.now c }
-    ensures { NextMissing commits.now (presenceIn presence.now) count.0 (placesIn path.runs) (missingLeft commits.now (presenceIn presence.now) count.0 (placesIn path.runs) c) result }
+    requires { (commits_ok commits.now ≡ true) × (presence_ok presence.now ≡ true) × Inside commits.now (places_in path.runs) × Sound commits.now c }
+    ensures { NextMissing commits.now (presence_in presence.now) count.0 (places_in path.runs) (missing_left commits.now (presence_in presence.now) count.0 (places_in path.runs) c) result }
 {
     let at = c.at;
     let gift = c.gift;
@@ -203,8 +203,8 @@ fn put_frame(
     list: &mut [u8],
     to: usize,
 ) -> usize
-    requires { (presenceOk presence.now ≡ true) × (normal range.pages ≡ true) × (normal gift ≡ true) × (to < 8589934592) }
-    ensures { (result, list.new) ≡ entered (isMissing (presenceIn presence.now) (shown gift) (rangeSays range)) to (rangeSays range) list.old }
+    requires { (presence_ok presence.now ≡ true) × (normal range.pages ≡ true) × (normal gift ≡ true) × (to < 8589934592) }
+    ensures { (result, list.new) ≡ entered (is_missing (presence_in presence.now) (shown gift) (range_says range)) to (range_says range) list.old }
 {
     if !is_missing(presence, range, gift) {
         return to;
@@ -225,10 +225,10 @@ fn put_frames(
     list: &mut [u8],
     from: usize,
 ) -> usize
-    requires commits_value { (commitsOk commits.now ≡ true) × (presenceOk presence.now ≡ true) × SoundAt commits.now (Place.At i) × (normal gift ≡ true) }
+    requires commits_value { (commits_ok commits.now ≡ true) × (presence_ok presence.now ≡ true) × SoundAt commits.now (Place.At i) × (normal gift ≡ true) }
     requires from_bound { from < 4294967296 }
-    ensures value { result ≡ from + length (framesLeft (presenceIn presence.now) (shown gift) (framesAt commits.now i) 0) }
-    ensures entries { Entries from (take (length list.old / 417 - from) (framesLeft (presenceIn presence.now) (shown gift) (framesAt commits.now i) 0)) list.old list.new }
+    ensures value { result ≡ from + length (frames_left (presence_in presence.now) (shown gift) (frames_at commits.now i) 0) }
+    ensures entries { Entries from (take (length list.old / 417 - from) (frames_left (presence_in presence.now) (shown gift) (frames_at commits.now i) 0)) list.old list.new }
 {
     let at = row(commits, i) + 63;
     let n = frames_count(commits, at + 401);
@@ -243,8 +243,8 @@ fn put_frames(
 
 // How many missing frames a path has: they are put into a list without places.
 fn count_missing(commits: &[u8], presence: &[u8], path: Path, count: PageCount) -> usize
-    requires { (commitsOk commits.now ≡ true) × (presenceOk presence.now ≡ true) × Inside commits.now (placesIn path.runs) }
-    ensures { result ≡ length (missingOf (presenceIn presence.now) (itemsFrom commits.now count.0 (placesIn path.runs) 0)) }
+    requires { (commits_ok commits.now ≡ true) × (presence_ok presence.now ≡ true) × Inside commits.now (places_in path.runs) }
+    ensures { result ≡ length (missing_of (presence_in presence.now) (items_from commits.now count.0 (places_in path.runs) 0)) }
 {
     let mut none = [0u8; 1];
     let mut tags = [0u32; 64];
@@ -271,10 +271,10 @@ fn put_missing(
     count: PageCount,
     list: &mut [u8],
 ) -> usize
-    requires commits_value { (commitsOk commits.now ≡ true) × (presenceOk presence.now ≡ true) × Inside commits.now (placesIn path.runs) }
-    requires runs_in_bounds { length (missingOf (presenceIn presence.now) (itemsFrom commits.now count.0 (placesIn path.runs) 0)) ≤ length list.old / 417 }
-    ensures value { (result ≡ length (missingOf (presenceIn presence.now) (itemsFrom commits.now count.0 (placesIn path.runs) 0))) × (result < 4294967296) }
-    ensures list_after { list.new ≡ put 0 (flat partBytes.spell (missingOf (presenceIn presence.now) (itemsFrom commits.now count.0 (placesIn path.runs) 0))) list.old }
+    requires commits_value { (commits_ok commits.now ≡ true) × (presence_ok presence.now ≡ true) × Inside commits.now (places_in path.runs) }
+    requires runs_in_bounds { length (missing_of (presence_in presence.now) (items_from commits.now count.0 (places_in path.runs) 0)) ≤ length list.old / 417 }
+    ensures value { (result ≡ length (missing_of (presence_in presence.now) (items_from commits.now count.0 (places_in path.runs) 0))) × (result < 4294967296) }
+    ensures list_after { list.new ≡ put 0 (flat part_bytes.spell (missing_of (presence_in presence.now) (items_from commits.now count.0 (places_in path.runs) 0))) list.old }
 {
     let mut tags = [0u32; 64];
     let mut masks = [0u64; 64];
@@ -300,7 +300,7 @@ pub fn missing_frames(
     list: &mut [u8],
     items: &mut u32,
 ) -> Reply
-    ensures { (result, (list.new, items.new)) ≡ listLeft partBytes list.old items.old (lent (commitsOk commits.now && presenceOk presence.now) (onSnapshot snapshot.now (missingFrames (commitsIn commits.now) (presenceIn presence.now) (slotsIn partBytes list.old)))) }
+    ensures { (result, (list.new, items.new)) ≡ list_left part_bytes list.old items.old (lent (commits_ok commits.now && presence_ok presence.now) (on_snapshot snapshot.now (missing_frames (commits_in commits.now) (presence_in presence.now) (slots_in part_bytes list.old)))) }
 {
     if !commits_formed(commits) {
         return Reply { code: 20, found: 0 };

@@ -14,30 +14,30 @@ use lib.ListN.{length, get_or, set, replicate, length-set, length-replicate}
 use lib.Seq.{get_or-set_same, get_or-set_other}
 use Rattle.pageset.specs.Sets.{bit}
 use Rattle.pageset.proofs.FormLaws.{clash}
-use Rattle.pageset.proofs.BitLaws.{bit-suc, bit-or, bit-none, bit-ones, shl_one}
+use Rattle.pageset.proofs.BitLaws.{bit_suc, bit_or_lem, bit_none, bit_ones, shl_one}
 use Rattle.notes.specs.declared.Told.{Told}
-use Rattle.notes.specs.Known.{marked, Of, Known, Tells, andHeld}
+use Rattle.notes.specs.Known.{marked, Of, Known, Tells, and_held}
 
 neither_left : (a b : Bool) → a || b ≡ false → a ≡ false
 neither_left true b e = e
 neither_left false b e = refl
 
 -- bit k of 2^k is set
-bit-power : (k : ℕ) → bit (1 * 2 ^ k) k ≡ true
+bit_power : (k : ℕ) → bit (1 * 2 ^ k) k ≡ true
 unfolding bit
-bit-power zero = refl
-bit-power (suc k) = bit-suc (1 * 2 ^ suc k) k ∙ ap (λ (x : ℕ). bit x k) (shifted_half 1 k) ∙ bit-power k
+bit_power zero = refl
+bit_power (suc k) = bit_suc (1 * 2 ^ suc k) k ∙ ap (λ (x : ℕ). bit x k) (shifted_half 1 k) ∙ bit_power k
 
 module _ (held : ℕ → Bool) (q mask : ℕ) where
   -- a page of another window
-  other-page : (x b : ℕ) → b < 64 → (x ≡ q → ⊥) → andHeld held q mask (x * 64 + b) ≡ held (x * 64 + b)
-  other-page x b l n =
+  other_page : (x b : ℕ) → b < 64 → (x ≡ q → ⊥) → and_held held q mask (x * 64 + b) ≡ held (x * 64 + b)
+  other_page x b l n =
       let d : (x * 64 + b) / 64 ≡ x = omega arith in
       rw (d, ne_eqb q x (λ z. n (sym z))) (or-false (held (x * 64 + b)))
 
   -- a page of this window
-  own-page : (b : ℕ) → b < 64 → andHeld held q mask (q * 64 + b) ≡ held (q * 64 + b) || bit mask b
-  own-page b l =
+  own_page : (b : ℕ) → b < 64 → and_held held q mask (q * 64 + b) ≡ held (q * 64 + b) || bit mask b
+  own_page b l =
       let d : (q * 64 + b) / 64 ≡ q = omega arith in
       let m : (q * 64 + b) % 64 ≡ b = omega arith in
       rw (d, m, eq-eqb q q refl)
@@ -57,29 +57,29 @@ module _ (held : ℕ → Bool) (q mask : ℕ) where
     inside : word < length marks
     inside = omega (arith, k.words)
 
-    own-mark : marked marks' q ≡ true
-    own-mark =
+    own_mark : marked marks' q ≡ true
+    own_mark =
         ap (λ (w : ℕ). bit w (q % 64)) (get_or-set_same marks word (bit_or (get_or marks word 0) (1 * 2 ^ (q % 64) % 18446744073709551616)) 0 inside)
-        ∙ bit-or (get_or marks word 0) (1 * 2 ^ (q % 64) % 18446744073709551616) (q % 64)
-        ∙ ap (λ (b : Bool). bit (get_or marks word 0) (q % 64) || b) (ap (λ (w : ℕ). bit w (q % 64)) (shl_one 64 (q % 64) (omega arith) ∙ sym (one-mul (2 ^ (q % 64)))) ∙ bit-power (q % 64))
+        ∙ bit_or_lem (get_or marks word 0) (1 * 2 ^ (q % 64) % 18446744073709551616) (q % 64)
+        ∙ ap (λ (b : Bool). bit (get_or marks word 0) (q % 64) || b) (ap (λ (w : ℕ). bit w (q % 64)) (shl_one 64 (q % 64) (omega arith) ∙ sym (one-mul (2 ^ (q % 64)))) ∙ bit_power (q % 64))
         ∙ or-true (bit (get_or marks word 0) (q % 64))
 
-    kept-mark : (p : ℕ) → marked marks' p ≡ false → marked marks p ≡ false
-    kept-mark p e = go (ℕ_discrete (p / 64 % 64) word)
+    kept_mark : (p : ℕ) → marked marks' p ≡ false → marked marks p ≡ false
+    kept_mark p e = go (ℕ_discrete (p / 64 % 64) word)
       where
         go : Dec (p / 64 % 64 ≡ word) → marked marks p ≡ false
         go (yes z) =
-            let f = sym (ap (λ (w : ℕ). bit w (p % 64)) (ap (λ (i : ℕ). get_or marks' i 0) z ∙ get_or-set_same marks word (bit_or (get_or marks word 0) (1 * 2 ^ (q % 64) % 18446744073709551616)) 0 inside) ∙ bit-or (get_or marks word 0) (1 * 2 ^ (q % 64) % 18446744073709551616) (p % 64)) ∙ e in
+            let f = sym (ap (λ (w : ℕ). bit w (p % 64)) (ap (λ (i : ℕ). get_or marks' i 0) z ∙ get_or-set_same marks word (bit_or (get_or marks word 0) (1 * 2 ^ (q % 64) % 18446744073709551616)) 0 inside) ∙ bit_or_lem (get_or marks word 0) (1 * 2 ^ (q % 64) % 18446744073709551616) (p % 64)) ∙ e in
             ap (λ (i : ℕ). bit (get_or marks i 0) (p % 64)) z ∙ neither_left (bit (get_or marks word 0) (p % 64)) (bit (1 * 2 ^ (q % 64) % 18446744073709551616) (p % 64)) f
         go (no n) = ap (λ (w : ℕ). bit w (p % 64)) (sym (get_or-set_other marks word (p / 64 % 64) (bit_or (get_or marks word 0) (1 * 2 ^ (q % 64) % 18446744073709551616)) 0 n)) ∙ e
 
     -- a window that has no mark now has no page that is held
-    free' : (p : ℕ) → marked marks' p ≡ false → Of (andHeld held q mask) p 0
-    free' p e b l = k.free p (kept-mark p e) b l ∙ sym (other-page p b l (λ z. clash (marked marks' q) own-mark (ap (λ (x : ℕ). marked marks' x) (sym z) ∙ e)))
+    free' : (p : ℕ) → marked marks' p ≡ false → Of (and_held held q mask) p 0
+    free' p e b l = k.free p (kept_mark p e) b l ∙ sym (other_page p b l (λ z. clash (marked marks' q) own_mark (ap (λ (x : ℕ). marked marks' x) (sym z) ∙ e)))
 
     -- a place of another number has another window
-    elsewhere : (s : ℕ) → s < 64 → (s ≡ at → ⊥) → Of (andHeld held q mask) (get_or tags s 0 * 64 + s) (get_or masks s 0)
-    elsewhere s l n b h = k.exact s l b h ∙ sym (other-page (get_or tags s 0 * 64 + s) b h (λ z. n (omega arith)))
+    elsewhere : (s : ℕ) → s < 64 → (s ≡ at → ⊥) → Of (and_held held q mask) (get_or tags s 0 * 64 + s) (get_or masks s 0)
+    elsewhere s l n b h = k.exact s l b h ∙ sym (other_page (get_or tags s 0 * 64 + s) b h (λ z. n (omega arith)))
 
     words' : length marks' ≡ 64
     words' = length-set marks word (bit_or (get_or marks word 0) (1 * 2 ^ (q % 64) % 18446744073709551616)) ∙ k.words
@@ -93,7 +93,7 @@ module _ (held : ℕ → Bool) (q mask : ℕ) where
       pub told_here : Tells held q (record { known = true; mask = get_or masks at 0 })
       told_here z b l = k.exact at (omega arith) b l ∙ ap (λ (x : ℕ). held (x * 64 + b)) here
 
-      pub noted_here : Known (andHeld held q mask) tags (set masks at (bit_or (get_or masks at 0) mask)) marks'
+      pub noted_here : Known (and_held held q mask) tags (set masks at (bit_or (get_or masks at 0) mask)) marks'
       noted_here = record {
         places = k.places;
         pages = length-set masks at (bit_or (get_or masks at 0) mask) ∙ k.pages;
@@ -102,26 +102,26 @@ module _ (held : ℕ → Bool) (q mask : ℕ) where
         free = free';
       }
         where
-          own : Of (andHeld held q mask) (get_or tags at 0 * 64 + at) (get_or (set masks at (bit_or (get_or masks at 0) mask)) at 0)
+          own : Of (and_held held q mask) (get_or tags at 0 * 64 + at) (get_or (set masks at (bit_or (get_or masks at 0) mask)) at 0)
           own b l =
               ap (λ (m : ℕ). bit m b) (get_or-set_same masks at (bit_or (get_or masks at 0) mask) 0 (omega (arith, k.pages)))
-              ∙ bit-or (get_or masks at 0) mask b
+              ∙ bit_or_lem (get_or masks at 0) mask b
               ∙ ap (λ (h : Bool). h || bit mask b) (told_here refl b l)
-              ∙ sym (own-page b l)
-              ∙ ap (λ (x : ℕ). andHeld held q mask (x * 64 + b)) (sym here)
+              ∙ sym (own_page b l)
+              ∙ ap (λ (x : ℕ). and_held held q mask (x * 64 + b)) (sym here)
 
-          go : (s : ℕ) → s < 64 → Dec (s ≡ at) → Of (andHeld held q mask) (get_or tags s 0 * 64 + s) (get_or (set masks at (bit_or (get_or masks at 0) mask)) s 0)
-          go s l (yes z) = subst (λ (x : ℕ). Of (andHeld held q mask) (get_or tags x 0 * 64 + x) (get_or (set masks at (bit_or (get_or masks at 0) mask)) x 0)) (sym z) own
+          go : (s : ℕ) → s < 64 → Dec (s ≡ at) → Of (and_held held q mask) (get_or tags s 0 * 64 + s) (get_or (set masks at (bit_or (get_or masks at 0) mask)) s 0)
+          go s l (yes z) = subst (λ (x : ℕ). Of (and_held held q mask) (get_or tags x 0 * 64 + x) (get_or (set masks at (bit_or (get_or masks at 0) mask)) x 0)) (sym z) own
           go s l (no n) = λ b h. ap (λ (m : ℕ). bit m b) (get_or-set_other masks at s (bit_or (get_or masks at 0) mask) 0 n) ∙ elsewhere s l n b h
 
     -- ---- another window is in its place
 
     module _ (n : get_or tags at 0 ≡ q / 64 → ⊥) where
-      pub noted-nowhere : Known (andHeld held q mask) tags masks marks'
-      noted-nowhere = record { places = k.places; pages = k.pages; words = words'; exact = λ s l. go s l (ℕ_discrete s at); free = free' }
+      pub noted_nowhere : Known (and_held held q mask) tags masks marks'
+      noted_nowhere = record { places = k.places; pages = k.pages; words = words'; exact = λ s l. go s l (ℕ_discrete s at); free = free' }
         where
-          go : (s : ℕ) → s < 64 → Dec (s ≡ at) → Of (andHeld held q mask) (get_or tags s 0 * 64 + s) (get_or masks s 0)
-          go s l (yes z) b h = k.exact s l b h ∙ sym (other-page (get_or tags s 0 * 64 + s) b h (λ y. n (ap (λ (x : ℕ). get_or tags x 0) (sym z) ∙ whole (get_or tags s 0) s l y)))
+          go : (s : ℕ) → s < 64 → Dec (s ≡ at) → Of (and_held held q mask) (get_or tags s 0 * 64 + s) (get_or masks s 0)
+          go s l (yes z) b h = k.exact s l b h ∙ sym (other_page (get_or tags s 0 * 64 + s) b h (λ y. n (ap (λ (x : ℕ). get_or tags x 0) (sym z) ∙ whole (get_or tags s 0) s l y)))
             where
               whole : (t s : ℕ) → s < 64 → t * 64 + s ≡ q → t ≡ q / 64
               whole t s l y = omega arith
@@ -133,8 +133,8 @@ module _ (held : ℕ → Bool) (q mask : ℕ) where
       pub told_free : Tells held q (record { known = true; mask = 0 })
       told_free z = k.free q e
 
-      pub noted-free : Known (andHeld held q mask) (set tags at (q / 64)) (set masks at mask) marks'
-      noted-free = record {
+      pub noted_free : Known (and_held held q mask) (set tags at (q / 64)) (set masks at mask) marks'
+      noted_free = record {
         places = length-set tags at (q / 64) ∙ k.places;
         pages = length-set masks at mask ∙ k.pages;
         words = words';
@@ -145,19 +145,19 @@ module _ (held : ℕ → Bool) (q mask : ℕ) where
           here : get_or (set tags at (q / 64)) at 0 * 64 + at ≡ q
           here = let f = get_or-set_same tags at (q / 64) 0 (omega (arith, k.places)) in omega arith
 
-          own : Of (andHeld held q mask) (get_or (set tags at (q / 64)) at 0 * 64 + at) (get_or (set masks at mask) at 0)
+          own : Of (and_held held q mask) (get_or (set tags at (q / 64)) at 0 * 64 + at) (get_or (set masks at mask) at 0)
           own b l =
               ap (λ (m : ℕ). bit m b) (get_or-set_same masks at mask 0 (omega (arith, k.pages)))
-              ∙ ap (λ (h : Bool). h || bit mask b) (sym (bit-none b) ∙ k.free q e b l)
-              ∙ sym (own-page b l)
-              ∙ ap (λ (x : ℕ). andHeld held q mask (x * 64 + b)) (sym here)
+              ∙ ap (λ (h : Bool). h || bit mask b) (sym (bit_none b) ∙ k.free q e b l)
+              ∙ sym (own_page b l)
+              ∙ ap (λ (x : ℕ). and_held held q mask (x * 64 + b)) (sym here)
 
-          go : (s : ℕ) → s < 64 → Dec (s ≡ at) → Of (andHeld held q mask) (get_or (set tags at (q / 64)) s 0 * 64 + s) (get_or (set masks at mask) s 0)
-          go s l (yes z) = subst (λ (x : ℕ). Of (andHeld held q mask) (get_or (set tags at (q / 64)) x 0 * 64 + x) (get_or (set masks at mask) x 0)) (sym z) own
+          go : (s : ℕ) → s < 64 → Dec (s ≡ at) → Of (and_held held q mask) (get_or (set tags at (q / 64)) s 0 * 64 + s) (get_or (set masks at mask) s 0)
+          go s l (yes z) = subst (λ (x : ℕ). Of (and_held held q mask) (get_or (set tags at (q / 64)) x 0 * 64 + x) (get_or (set masks at mask) x 0)) (sym z) own
           go s l (no n) = λ b h.
               ap (λ (m : ℕ). bit m b) (get_or-set_other masks at s mask 0 n)
               ∙ elsewhere s l n b h
-              ∙ ap (λ (t : ℕ). andHeld held q mask ((t * 64 + s) * 64 + b)) (sym (get_or-set_other tags at s (q / 64) 0 n))
+              ∙ ap (λ (t : ℕ). and_held held q mask ((t * 64 + s) * 64 + b)) (sym (get_or-set_other tags at s (q / 64) 0 n))
 
 -- ---- notes of the same pages, of none, and of any
 
@@ -177,24 +177,24 @@ alike x (suc n) zero h = refl
 alike x (suc n) (suc i) h = alike x n i (omega arith)
 
 -- fresh notes, while no page is held
-pub known-none : Known (λ p. false) (replicate 64 0) (replicate 64 0) (replicate 64 0)
-known-none = record {
+pub known_none : Known (λ p. false) (replicate 64 0) (replicate 64 0) (replicate 64 0)
+known_none = record {
   places = length-replicate {A = ℕ} 64 0;
   pages = length-replicate {A = ℕ} 64 0;
   words = length-replicate {A = ℕ} 64 0;
-  exact = λ s l b h. ap (λ (m : ℕ). bit m b) (alike 0 64 s l) ∙ bit-none b;
-  free = λ q z b h. bit-none b;
+  exact = λ s l b h. ap (λ (m : ℕ). bit m b) (alike 0 64 s l) ∙ bit_none b;
+  free = λ q z b h. bit_none b;
 }
 
 -- notes that know nothing: each place has a window past the last, and each mark is set
-pub known-nothing : (held : ℕ → Bool) → ((p : ℕ) → 4294967296 ≤ p → held p ≡ false) → Known held (replicate 64 4294967295) (replicate 64 0) (replicate 64 18446744073709551615)
-known-nothing held none = record {
+pub known_nothing : (held : ℕ → Bool) → ((p : ℕ) → 4294967296 ≤ p → held p ≡ false) → Known held (replicate 64 4294967295) (replicate 64 0) (replicate 64 18446744073709551615)
+known_nothing held none = record {
   places = length-replicate {A = ℕ} 64 4294967295;
   pages = length-replicate {A = ℕ} 64 0;
   words = length-replicate {A = ℕ} 64 18446744073709551615;
-  exact = λ s l b h. ap (λ (m : ℕ). bit m b) (alike 0 64 s l) ∙ bit-none b ∙ sym (none ((get_or (replicate 64 4294967295) s 0 * 64 + s) * 64 + b) (let e = alike 4294967295 64 s l in omega arith));
-  free = λ q z. absurd (clash (marked (replicate 64 18446744073709551615) q) (set-mark q) z);
+  exact = λ s l b h. ap (λ (m : ℕ). bit m b) (alike 0 64 s l) ∙ bit_none b ∙ sym (none ((get_or (replicate 64 4294967295) s 0 * 64 + s) * 64 + b) (let e = alike 4294967295 64 s l in omega arith));
+  free = λ q z. absurd (clash (marked (replicate 64 18446744073709551615) q) (set_mark q) z);
 }
   where
-    set-mark : (q : ℕ) → marked (replicate 64 18446744073709551615) q ≡ true
-    set-mark q = ap (λ (w : ℕ). bit w (q % 64)) (alike 18446744073709551615 64 (q / 64 % 64) (omega arith)) ∙ bit-ones 64 (q % 64) ∙ lt-ltb (q % 64) 64 (omega arith)
+    set_mark : (q : ℕ) → marked (replicate 64 18446744073709551615) q ≡ true
+    set_mark q = ap (λ (w : ℕ). bit w (q % 64)) (alike 18446744073709551615 64 (q / 64 % 64) (omega arith)) ∙ bit_ones 64 (q % 64) ∙ lt-ltb (q % 64) 64 (omega arith)

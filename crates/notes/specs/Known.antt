@@ -24,10 +24,10 @@ abbrev pub Tells : (ℕ → Bool) → ℕ → Told → Type 0
 Tells held q r = r.known ≡ true → Of held q r.mask
 
 -- the pages that are held once a commit with these pages of window q is met
-abbrev pub andHeld : (ℕ → Bool) → ℕ → ℕ → ℕ → Bool
-andHeld held q mask p = held p || (eqb q (p / 64) && bit mask (p % 64))
+abbrev pub and_held : (ℕ → Bool) → ℕ → ℕ → ℕ → Bool
+and_held held q mask p = held p || (eqb q (p / 64) && bit mask (p % 64))
 
 -- whatever pages the notes were of, they tell so, and become those of what is held then
 abbrev pub AsNoted : ℕ → ℕ → List ℕ → List ℕ → List ℕ → List ℕ → List ℕ → List ℕ → Told → Type 0
 AsNoted q mask tags masks marks tags' masks' marks' r =
-    (held : ℕ → Bool) → Known held tags masks marks → Tells held q r × Known (andHeld held q mask) tags' masks' marks'
+    (held : ℕ → Bool) → Known held tags masks marks → Tells held q r × Known (and_held held q mask) tags' masks' marks'

@@ -18,26 +18,26 @@ module _ {A : Type 0} (e : A → List ℕ) where
   flat_append [] ys = refl
   flat_append (x ∷ xs) ys = ap (λ (l : List ℕ). e x ++ l) (flat_append xs ys) ∙ sym (append_assoc (e x) (flat e xs) (flat e ys))
 
-  pub flat-one : (x : A) → flat e (x ∷ []) ≡ e x
+  pub flat_one : (x : A) → flat e (x ∷ []) ≡ e x
   unfolding flat
-  flat-one x = append-nil (e x)
+  flat_one x = append-nil (e x)
 
 module _ {A : Type 0} (n : ℕ) (e : A → List ℕ) (long : (a : A) → length (e a) ≡ n) where
-  pub length-flat : (xs : List A) → length (flat e xs) ≡ n * length xs
+  pub length_flat : (xs : List A) → length (flat e xs) ≡ n * length xs
   unfolding flat
-  length-flat [] = sym (mul-zero n)
-  length-flat (a ∷ xs) = length-append (e a) (flat e xs) ∙ omega (arith, long a, length-flat xs, mul-suc n (length xs))
+  length_flat [] = sym (mul-zero n)
+  length_flat (a ∷ xs) = length-append (e a) (flat e xs) ∙ omega (arith, long a, length_flat xs, mul-suc n (length xs))
 
   -- a turn of the loop that writes: element i is stored, and what is left to store is what follows it
-  pub flat-turn : (at i : ℕ) (xs : List A) (z : A) (s : List ℕ) → i < length xs → at + n * length xs ≤ length s
+  pub flat_turn : (at i : ℕ) (xs : List A) (z : A) (s : List ℕ) → i < length xs → at + n * length xs ≤ length s
       → put (at + n * (i + 1)) (flat e (drop (i + 1) xs)) (put (at + n * i) (e (get_or xs i z)) s) ≡ put (at + n * i) (flat e (drop i xs)) s
   unfolding flat
-  flat-turn at i xs z s h l =
+  flat_turn at i xs z s h l =
       let a = get_or xs i z in
       let rest = flat e (drop (i + 1) xs) in
-      let r : length rest ≡ n * (length xs - (i + 1)) = length-flat (drop (i + 1) xs) ∙ ap (λ (k : ℕ). n * k) (length-drop (i + 1) xs) in
+      let r : length rest ≡ n * (length xs - (i + 1)) = length_flat (drop (i + 1) xs) ∙ ap (λ (k : ℕ). n * k) (length-drop (i + 1) xs) in
       let m : n * (i + 1) ≡ n * i + n = ap (λ (k : ℕ). n * k) (add-one i) ∙ mul-suc n i in
-      let o : length (flat e (drop i xs)) ≡ n * (length xs - i) = length-flat (drop i xs) ∙ ap (λ (k : ℕ). n * k) (length-drop i xs) in
+      let o : length (flat e (drop i xs)) ≡ n * (length xs - i) = length_flat (drop i xs) ∙ ap (λ (k : ℕ). n * k) (length-drop i xs) in
       let b : n * i + n * (length xs - i) ≡ n * length xs = sym (mul-add n i (length xs - i)) ∙ ap (λ (k : ℕ). n * k) (omega arith) in
       let c : n * (length xs - i) ≡ n * (length xs - (i + 1)) + n = ap (λ (k : ℕ). n * k) (left (length xs) i h) ∙ mul-suc n (length xs - (i + 1)) in
       ap (λ (k : ℕ). put k rest (put (at + n * i) (e a) s)) (omega arith)
@@ -51,6 +51,6 @@ module _ {A : Type 0} (n : ℕ) (e : A → List ℕ) (long : (a : A) → length 
   pub flat_start : (at : ℕ) (xs : List A) (s : List ℕ) → put (at + n * 0) (flat e (drop 0 xs)) s ≡ put at (flat e xs) s
   flat_start at xs s = rw (mul-zero, add-zero)
 
-  pub flat-done : (at i : ℕ) (xs : List A) (s : List ℕ) → i ≡ length xs → put (at + n * i) (flat e (drop i xs)) s ≡ s
+  pub flat_done : (at i : ℕ) (xs : List A) (s : List ℕ) → i ≡ length xs → put (at + n * i) (flat e (drop i xs)) s ≡ s
   unfolding flat
-  flat-done at i xs s h = rw (h, drop-length) (P.put-none _ s)
+  flat_done at i xs s h = rw (h, drop-length) (P.put_none _ s)

@@ -12,111 +12,111 @@ use Rattle.octets.specs.Bytes.{be, bytes_of, down, AreBytes}
 
 -- ---- the number that bytes spell
 
-pow-some : (k : ℕ) → 0 < 256 ^ k
-pow-some zero = lit< tt
-pow-some (suc k) = rw pow-suc (omega (arith, pow-some k))
+pow_some : (k : ℕ) → 0 < 256 ^ k
+pow_some zero = lit< tt
+pow_some (suc k) = rw pow-suc (omega (arith, pow_some k))
 
 -- two runs, one after the other
-pub be-append : (xs ys : List ℕ) → be (xs ++ ys) ≡ be xs * 256 ^ length ys + be ys
+pub be_append : (xs ys : List ℕ) → be (xs ++ ys) ≡ be xs * 256 ^ length ys + be ys
 unfolding be
-be-append [] ys = rw (zero-mul, zero-add)
-be-append (x ∷ xs) ys =
-    rw (length-append xs ys, pow-add 256 (length xs) (length ys), be-append xs ys, add-mul, mul_assoc, add_assoc)
+be_append [] ys = rw (zero-mul, zero-add)
+be_append (x ∷ xs) ys =
+    rw (length-append xs ys, pow-add 256 (length xs) (length ys), be_append xs ys, add-mul, mul_assoc, add_assoc)
 
-pub be-one : (x : ℕ) → be (x ∷ []) ≡ x
+pub be_one : (x : ℕ) → be (x ∷ []) ≡ x
 unfolding be
-be-one x = omega arith
+be_one x = omega arith
 
 -- one byte more at the end
-pub be-snoc : (xs : List ℕ) (x : ℕ) → be (xs ++ (x ∷ [])) ≡ be xs * 256 + x
-be-snoc xs x = be-append xs (x ∷ []) ∙ ap (λ (n : ℕ). be xs * 256 + n) (be-one x)
+pub be_snoc : (xs : List ℕ) (x : ℕ) → be (xs ++ (x ∷ [])) ≡ be xs * 256 + x
+be_snoc xs x = be_append xs (x ∷ []) ∙ ap (λ (n : ℕ). be xs * 256 + n) (be_one x)
 
 -- k bytes spell a number below 256 ^ k
-pub be-lt : (xs : List ℕ) → AreBytes xs → be xs < 256 ^ length xs
+pub be_lt : (xs : List ℕ) → AreBytes xs → be xs < 256 ^ length xs
 unfolding be
-be-lt [] b = lit< tt
-be-lt (x ∷ xs) b = rw (pow-succ' 256 (length xs)) (digits_lt (b 0) (be-lt xs (λ i. b (suc i))))
+be_lt [] b = lit< tt
+be_lt (x ∷ xs) b = rw (pow-succ' 256 (length xs)) (digits_lt (b 0) (be_lt xs (λ i. b (suc i))))
 
 -- ---- the bytes of a number
 
-pub length-bytesOf : (k v : ℕ) → length (bytes_of k v) ≡ k
+pub length_bytes_of : (k v : ℕ) → length (bytes_of k v) ≡ k
 unfolding bytes_of
-length-bytesOf zero v = refl
-length-bytesOf (suc k) v = ap suc (length-bytesOf k v)
+length_bytes_of zero v = refl
+length_bytes_of (suc k) v = ap suc (length_bytes_of k v)
 
-pub bytes-bytesOf : (k v : ℕ) → AreBytes (bytes_of k v)
+pub bytes_bytes_of : (k v : ℕ) → AreBytes (bytes_of k v)
 unfolding bytes_of
-bytes-bytesOf zero v i = lit< tt
-bytes-bytesOf (suc k) v zero = mod-lt (v / 256 ^ k) (lit< tt)
-bytes-bytesOf (suc k) v (suc i) = bytes-bytesOf k v i
+bytes_bytes_of zero v i = lit< tt
+bytes_bytes_of (suc k) v zero = mod-lt (v / 256 ^ k) (lit< tt)
+bytes_bytes_of (suc k) v (suc i) = bytes_bytes_of k v i
 
 -- the k low bytes spell what is left of v by 256 ^ k
-be-bytesOf-mod : (k v : ℕ) → be (bytes_of k v) ≡ v % 256 ^ k
+be_bytes_of_mod : (k v : ℕ) → be (bytes_of k v) ≡ v % 256 ^ k
 unfolding be bytes_of
-be-bytesOf-mod zero v = sym (mod-one v)
-be-bytesOf-mod (suc k) v =
-    rw (length-bytesOf k v, be-bytesOf-mod k v, pow-succ' 256 k) (sym (mod-mul v (lit< tt) (pow-some k)))
+be_bytes_of_mod zero v = sym (mod-one v)
+be_bytes_of_mod (suc k) v =
+    rw (length_bytes_of k v, be_bytes_of_mod k v, pow-succ' 256 k) (sym (mod-mul v (lit< tt) (pow_some k)))
 
 -- a number is what its bytes spell
-pub be-bytesOf : (k v : ℕ) → v < 256 ^ k → be (bytes_of k v) ≡ v
-be-bytesOf k v h = be-bytesOf-mod k v ∙ mod-eq_of_lt h
+pub be_bytes_of : (k v : ℕ) → v < 256 ^ k → be (bytes_of k v) ≡ v
+be_bytes_of k v h = be_bytes_of_mod k v ∙ mod-eq_of_lt h
 
 -- what stands above the k low bytes does not show in them
-bytesOf-above : (k q v : ℕ) → bytes_of k (q * 256 ^ k + v) ≡ bytes_of k v
+bytes_of_above : (k q v : ℕ) → bytes_of k (q * 256 ^ k + v) ≡ bytes_of k v
 unfolding bytes_of
-bytesOf-above zero q v = refl
-bytesOf-above (suc k) q v =
+bytes_of_above zero q v = refl
+bytes_of_above (suc k) q v =
     let e : q * 256 ^ suc k + v ≡ q * 256 * 256 ^ k + v = rw (pow-succ' 256 k) (ap (λ (n : ℕ). n + v) (sym (mul_assoc q 256 (256 ^ k)))) in
-    let h : (q * 256 * 256 ^ k + v) / 256 ^ k % 256 ≡ v / 256 ^ k % 256 = ap (λ (n : ℕ). n % 256) (mul-add-div_right (pow-some k) (q * 256) v) ∙ mul-add-mod_self_right q 256 (v / 256 ^ k) in
-    rw e (ap₂ {C = List ℕ} (λ a l. a ∷ l) h (bytesOf-above k (q * 256) v))
+    let h : (q * 256 * 256 ^ k + v) / 256 ^ k % 256 ≡ v / 256 ^ k % 256 = ap (λ (n : ℕ). n % 256) (mul-add-div_right (pow_some k) (q * 256) v) ∙ mul-add-mod_self_right q 256 (v / 256 ^ k) in
+    rw e (ap₂ {C = List ℕ} (λ a l. a ∷ l) h (bytes_of_above k (q * 256) v))
 
 pub bytes_of_mod : (k v : ℕ) → bytes_of k (v % 256 ^ k) ≡ bytes_of k v
-bytes_of_mod k v = sym (bytesOf-above k (v / 256 ^ k) (v % 256 ^ k)) ∙ ap (bytes_of k) (div-add-mod' v (256 ^ k))
+bytes_of_mod k v = sym (bytes_of_above k (v / 256 ^ k) (v % 256 ^ k)) ∙ ap (bytes_of k) (div-add-mod' v (256 ^ k))
 
 -- the high bytes and the low ones
-pub bytesOf-two : (j k v : ℕ) → bytes_of (j + k) v ≡ bytes_of j (v / 256 ^ k) ++ bytes_of k v
+pub bytes_of_two : (j k v : ℕ) → bytes_of (j + k) v ≡ bytes_of j (v / 256 ^ k) ++ bytes_of k v
 unfolding bytes_of
-bytesOf-two zero k v = ap (λ (n : ℕ). bytes_of n v) (zero-add k)
-bytesOf-two (suc j) k v =
+bytes_of_two zero k v = ap (λ (n : ℕ). bytes_of n v) (zero-add k)
+bytes_of_two (suc j) k v =
     let h : v / 256 ^ (j + k) % 256 ≡ v / 256 ^ k / 256 ^ j % 256 =
     ap (λ (n : ℕ). n % 256) (ap (λ (n : ℕ). v / n) (pow-add 256 j k ∙ mul_comm (256 ^ j) (256 ^ k)) ∙ sym (div-div-eq-div-mul v (256 ^ k) (256 ^ j))) in
-    ap (λ (n : ℕ). bytes_of n v) (suc-add j k) ∙ ap₂ {C = List ℕ} (λ a l. a ∷ l) h (bytesOf-two j k v)
+    ap (λ (n : ℕ). bytes_of n v) (suc-add j k) ∙ ap₂ {C = List ℕ} (λ a l. a ∷ l) h (bytes_of_two j k v)
 
 -- bytes are what spells their number
-pub bytesOf-be : (xs : List ℕ) → AreBytes xs → bytes_of (length xs) (be xs) ≡ xs
+pub bytes_of_be : (xs : List ℕ) → AreBytes xs → bytes_of (length xs) (be xs) ≡ xs
 unfolding bytes_of be
-bytesOf-be [] b = refl
-bytesOf-be (x ∷ xs) b =
-    let l : be xs < 256 ^ length xs = be-lt xs (λ i. b (suc i)) in
+bytes_of_be [] b = refl
+bytes_of_be (x ∷ xs) b =
+    let l : be xs < 256 ^ length xs = be_lt xs (λ i. b (suc i)) in
     let h : (x * 256 ^ length xs + be xs) / 256 ^ length xs % 256 ≡ x = ap (λ (n : ℕ). n % 256) (digits_div x l) ∙ mod-eq_of_lt (b 0) in
-    ap₂ {C = List ℕ} (λ a r. a ∷ r) h (bytesOf-above (length xs) x (be xs) ∙ bytesOf-be xs (λ i. b (suc i)))
+    ap₂ {C = List ℕ} (λ a r. a ∷ r) h (bytes_of_above (length xs) x (be xs) ∙ bytes_of_be xs (λ i. b (suc i)))
 
 -- ---- numbers in falling order
 
 -- a number below m and its complement
-complement-lt : (m v : ℕ) → 0 < m → m - 1 - v < m
-complement-lt m v h = omega arith
+complement_lt : (m v : ℕ) → 0 < m → m - 1 - v < m
+complement_lt m v h = omega arith
 
-pub complement-twice : (m v : ℕ) → v < m → m - 1 - (m - 1 - v) ≡ v
-complement-twice m v h = omega arith
+pub complement_twice : (m v : ℕ) → v < m → m - 1 - (m - 1 - v) ≡ v
+complement_twice m v h = omega arith
 
-pub length-down : (k v : ℕ) → length (down k v) ≡ k
+pub length_down : (k v : ℕ) → length (down k v) ≡ k
 unfolding down
-length-down k v = length-bytesOf k (256 ^ k - 1 - v)
+length_down k v = length_bytes_of k (256 ^ k - 1 - v)
 
 pub bytes_down : (k v : ℕ) → AreBytes (down k v)
 unfolding down
-bytes_down k v = bytes-bytesOf k (256 ^ k - 1 - v)
+bytes_down k v = bytes_bytes_of k (256 ^ k - 1 - v)
 
-pub be-down : (k v : ℕ) → be (down k v) ≡ 256 ^ k - 1 - v
+pub be_down : (k v : ℕ) → be (down k v) ≡ 256 ^ k - 1 - v
 unfolding down
-be-down k v = be-bytesOf k (256 ^ k - 1 - v) (complement-lt (256 ^ k) v (pow-some k))
+be_down k v = be_bytes_of k (256 ^ k - 1 - v) (complement_lt (256 ^ k) v (pow_some k))
 
 -- the bytes at a place that stand for the number that they complement
-pub down-be : (xs : List ℕ) → AreBytes xs → down (length xs) (256 ^ length xs - 1 - be xs) ≡ xs
+pub down_be : (xs : List ℕ) → AreBytes xs → down (length xs) (256 ^ length xs - 1 - be xs) ≡ xs
 unfolding down
-down-be xs b =
-    ap (bytes_of (length xs)) (complement-twice (256 ^ length xs) (be xs) (be-lt xs b)) ∙ bytesOf-be xs b
+down_be xs b =
+    ap (bytes_of (length xs)) (complement_twice (256 ^ length xs) (be xs) (be_lt xs b)) ∙ bytes_of_be xs b
 
 -- ---- four bytes from the last to the first
 
@@ -132,19 +132,19 @@ unfolding be
 spelled a b c d = omega arith
 
 -- the number that has the first byte as its lowest
-pub lowest-first : (a b c d : ℕ) → a < 256 → b < 256 → c < 256 → d < 256 → bytes_of 4 (a + 256 * (b + 256 * (c + 256 * d))) ≡ reverse (a ∷ b ∷ c ∷ d ∷ [])
-lowest-first a b c d p q r t =
+pub lowest_first : (a b c d : ℕ) → a < 256 → b < 256 → c < 256 → d < 256 → bytes_of 4 (a + 256 * (b + 256 * (c + 256 * d))) ≡ reverse (a ∷ b ∷ c ∷ d ∷ [])
+lowest_first a b c d p q r t =
     let e : a + 256 * (b + 256 * (c + 256 * d)) ≡ be (d ∷ c ∷ b ∷ a ∷ []) = omega (arith, spelled a b c d) in
-    ap (bytes_of 4) e ∙ bytesOf-be (d ∷ c ∷ b ∷ a ∷ []) (four_bytes d c b a t r q p)
+    ap (bytes_of 4) e ∙ bytes_of_be (d ∷ c ∷ b ∷ a ∷ []) (four_bytes d c b a t r q p)
 
 -- the number that has the last byte of v as its highest
-pub last-first : (v : ℕ) → v < 2 ^ 32 → v % 256 * 16777216 + v / 256 % 256 * 65536 + v / 65536 % 256 * 256 + v / 16777216 ≡ be (reverse (bytes_of 4 v))
+pub last_first : (v : ℕ) → v < 2 ^ 32 → v % 256 * 16777216 + v / 256 % 256 * 65536 + v / 65536 % 256 * 256 + v / 16777216 ≡ be (reverse (bytes_of 4 v))
 unfolding bytes_of
-last-first v h =
+last_first v h =
     let top : v / 16777216 < 256 = omega arith in
     spelled (v / 16777216) (v / 65536 % 256) (v / 256 % 256) (v % 256)
     ∙ ap₂ (λ (x y : ℕ). be (x ∷ v / 256 % 256 ∷ v / 65536 % 256 ∷ y ∷ [])) (sym (ap (λ (n : ℕ). n % 256) (div-one v))) (sym (mod-eq_of_lt top))
 
 -- bytes turned twice
-pub turned-twice : (v : ℕ) (xs : List ℕ) → bytes_of 4 v ≡ reverse xs → be (reverse (bytes_of 4 v)) ≡ be xs
-turned-twice v xs e = ap (λ (l : List ℕ). be (reverse l)) e ∙ ap be (reverse-reverse xs)
+pub turned_twice : (v : ℕ) (xs : List ℕ) → bytes_of 4 v ≡ reverse xs → be (reverse (bytes_of 4 v)) ≡ be xs
+turned_twice v xs e = ap (λ (l : List ℕ). be (reverse l)) e ∙ ap be (reverse-reverse xs)

@@ -11,7 +11,7 @@ use lib.ListN.{length, get_or, set, take, drop, replicate, length-append, length
 use lib.Seq.{length-take-le, take-length, get_or-drop, drop-cons, take_at, drop_at, take-append-le, drop-append-le, take-take, drop-drop, drop-length, get_or-take, take-add, take_all, set_split}
 use lib.Dec.{eqb}
 use borrow.Author.Tests.{eqb-true}
-use Rattle.octets.specs.Bytes.{be, bytes_of, part, put, AreBytes, allZero}
+use Rattle.octets.specs.Bytes.{be, bytes_of, part, put, AreBytes, all_zero}
 use Rattle.octets.proofs.Numbers as N
 
 -- ---- lengths and elements
@@ -20,16 +20,16 @@ pub length_part : (at k : ℕ) (xs : List ℕ) → at + k ≤ length xs → leng
 unfolding part
 length_part at k xs h = simp (length-take, length-drop) (omega arith)
 
-pub length-put : (at : ℕ) (ys xs : List ℕ) → at + length ys ≤ length xs → length (put at ys xs) ≡ length xs
+pub length_put : (at : ℕ) (ys xs : List ℕ) → at + length ys ≤ length xs → length (put at ys xs) ≡ length xs
 unfolding put
-length-put at ys xs h = simp (length-append, length-take, length-drop) (omega arith)
+length_put at ys xs h = simp (length-append, length-take, length-drop) (omega arith)
 
 pub length_two : (k n : ℕ) (xs ys : List ℕ) → length xs ≡ k → length ys ≡ n → length (xs ++ ys) ≡ k + n
 length_two k n xs ys e f = length-append xs ys ∙ (cc)
 
-pub bytes-part : (at k : ℕ) (xs : List ℕ) → AreBytes xs → AreBytes (part at k xs)
+pub bytes_part : (at k : ℕ) (xs : List ℕ) → AreBytes xs → AreBytes (part at k xs)
 unfolding part
-bytes-part at k xs b i = go (dec_lt i k)
+bytes_part at k xs b i = go (dec_lt i k)
   where
     go : Dec (i < k) → get_or (take k (drop at xs)) i 0 < 256
     go (yes h) = rw (get_or-take k (drop at xs) i 0 h, get_or-drop) (b (at + i))
@@ -40,49 +40,49 @@ bytes-part at k xs b i = go (dec_lt i k)
 -- ---- parts
 
 -- the first k elements
-pub part-front : (k : ℕ) (xs : List ℕ) → part 0 k xs ≡ take k xs
+pub part_front : (k : ℕ) (xs : List ℕ) → part 0 k xs ≡ take k xs
 unfolding part
-part-front k xs = refl
+part_front k xs = refl
 
 pub part_none : (at : ℕ) (xs : List ℕ) → part at 0 xs ≡ []
 unfolding part
 part_none at xs = refl
 
-pub part-all : (xs : List ℕ) → part 0 (length xs) xs ≡ xs
+pub part_all : (xs : List ℕ) → part 0 (length xs) xs ≡ xs
 unfolding part
-part-all xs = take-length xs
+part_all xs = take-length xs
 
 -- the same by the length that is known
-pub part-whole : (k : ℕ) (xs : List ℕ) → length xs ≡ k → part 0 k xs ≡ xs
-part-whole k xs e = ap (λ (n : ℕ). part 0 n xs) (sym e) ∙ part-all xs
+pub part_whole : (k : ℕ) (xs : List ℕ) → length xs ≡ k → part 0 k xs ≡ xs
+part_whole k xs e = ap (λ (n : ℕ). part 0 n xs) (sym e) ∙ part_all xs
 
 -- one part after another
-pub part-add : (at k n : ℕ) (xs : List ℕ) → part at (k + n) xs ≡ part at k xs ++ part (at + k) n xs
+pub part_add : (at k n : ℕ) (xs : List ℕ) → part at (k + n) xs ≡ part at k xs ++ part (at + k) n xs
 unfolding part
-part-add at k n xs = take-add k n (drop at xs) ∙ ap (λ (r : List ℕ). take k (drop at xs) ++ take n r) (drop-drop k at xs)
+part_add at k n xs = take-add k n (drop at xs) ∙ ap (λ (r : List ℕ). take k (drop at xs) ++ take n r) (drop-drop k at xs)
 
-part-one : (at : ℕ) (xs : List ℕ) → at < length xs → part at 1 xs ≡ get_or xs at 0 ∷ []
+part_one : (at : ℕ) (xs : List ℕ) → at < length xs → part at 1 xs ≡ get_or xs at 0 ∷ []
 unfolding part
-part-one at xs h = ap (take 1) (drop-cons xs at 0 h)
+part_one at xs h = ap (take 1) (drop-cons xs at 0 h)
 
 -- a part's last element
-pub part-more : (at k : ℕ) (xs : List ℕ) → at + k < length xs → part at (k + 1) xs ≡ part at k xs ++ (get_or xs (at + k) 0 ∷ [])
-part-more at k xs h = part-add at k 1 xs ∙ ap (λ (r : List ℕ). part at k xs ++ r) (part-one (at + k) xs h)
+pub part_more : (at k : ℕ) (xs : List ℕ) → at + k < length xs → part at (k + 1) xs ≡ part at k xs ++ (get_or xs (at + k) 0 ∷ [])
+part_more at k xs h = part_add at k 1 xs ∙ ap (λ (r : List ℕ). part at k xs ++ r) (part_one (at + k) xs h)
 
 -- a part's first element
-pub part-less : (at k : ℕ) (xs : List ℕ) → at < length xs → part at (suc k) xs ≡ get_or xs at 0 ∷ part (at + 1) k xs
+pub part_less : (at k : ℕ) (xs : List ℕ) → at < length xs → part at (suc k) xs ≡ get_or xs at 0 ∷ part (at + 1) k xs
 unfolding part
-part-less at k xs h = ap (take (suc k)) (drop-cons xs at 0 h) ∙ ap (λ (n : ℕ). get_or xs at 0 ∷ take k (drop n xs)) (sym (add-one at))
+part_less at k xs h = ap (take (suc k)) (drop-cons xs at 0 h) ∙ ap (λ (n : ℕ). get_or xs at 0 ∷ take k (drop n xs)) (sym (add-one at))
 
 -- four elements
-part-four : (at : ℕ) (xs : List ℕ) → at + 4 ≤ length xs → part at 4 xs ≡ get_or xs at 0 ∷ get_or xs (at + 1) 0 ∷ get_or xs (at + 2) 0 ∷ get_or xs (at + 3) 0 ∷ []
-part-four at xs h =
+part_four : (at : ℕ) (xs : List ℕ) → at + 4 ≤ length xs → part at 4 xs ≡ get_or xs at 0 ∷ get_or xs (at + 1) 0 ∷ get_or xs (at + 2) 0 ∷ get_or xs (at + 3) 0 ∷ []
+part_four at xs h =
     let two : at + 1 + 1 ≡ at + 2 = omega arith in
     let three : at + 2 + 1 ≡ at + 3 = omega arith in
-    let d : part (at + 3) 1 xs ≡ get_or xs (at + 3) 0 ∷ [] = part-one (at + 3) xs (omega arith) in
-    let c : part (at + 2) 2 xs ≡ get_or xs (at + 2) 0 ∷ get_or xs (at + 3) 0 ∷ [] = part-less (at + 2) 1 xs (omega arith) ∙ ap (λ (n : ℕ). get_or xs (at + 2) 0 ∷ part n 1 xs) three ∙ ap (λ (l : List ℕ). get_or xs (at + 2) 0 ∷ l) d in
-    let b : part (at + 1) 3 xs ≡ get_or xs (at + 1) 0 ∷ get_or xs (at + 2) 0 ∷ get_or xs (at + 3) 0 ∷ [] = part-less (at + 1) 2 xs (omega arith) ∙ ap (λ (n : ℕ). get_or xs (at + 1) 0 ∷ part n 2 xs) two ∙ ap (λ (l : List ℕ). get_or xs (at + 1) 0 ∷ l) c in
-    part-less at 3 xs (omega arith) ∙ ap (λ (l : List ℕ). get_or xs at 0 ∷ l) b
+    let d : part (at + 3) 1 xs ≡ get_or xs (at + 3) 0 ∷ [] = part_one (at + 3) xs (omega arith) in
+    let c : part (at + 2) 2 xs ≡ get_or xs (at + 2) 0 ∷ get_or xs (at + 3) 0 ∷ [] = part_less (at + 2) 1 xs (omega arith) ∙ ap (λ (n : ℕ). get_or xs (at + 2) 0 ∷ part n 1 xs) three ∙ ap (λ (l : List ℕ). get_or xs (at + 2) 0 ∷ l) d in
+    let b : part (at + 1) 3 xs ≡ get_or xs (at + 1) 0 ∷ get_or xs (at + 2) 0 ∷ get_or xs (at + 3) 0 ∷ [] = part_less (at + 1) 2 xs (omega arith) ∙ ap (λ (n : ℕ). get_or xs (at + 1) 0 ∷ part n 2 xs) two ∙ ap (λ (l : List ℕ). get_or xs (at + 1) 0 ∷ l) c in
+    part_less at 3 xs (omega arith) ∙ ap (λ (l : List ℕ). get_or xs at 0 ∷ l) b
 
 within : (k j n : ℕ) (xs : List ℕ) → j + k ≤ n → take k (drop j (take n xs)) ≡ take k (drop j xs)
 within k zero n xs h = take-take k n xs (omega arith)
@@ -91,9 +91,9 @@ within k (suc j) (suc n) [] h = refl
 within k (suc j) (suc n) (x ∷ xs) h = within k j n xs (omega arith)
 
 -- a part of a part: a field of a record is a field of the bytes that hold it
-pub part-part : (at n j k : ℕ) (xs : List ℕ) → j + k ≤ n → part j k (part at n xs) ≡ part (at + j) k xs
+pub part_part : (at n j k : ℕ) (xs : List ℕ) → j + k ≤ n → part j k (part at n xs) ≡ part (at + j) k xs
 unfolding part
-part-part at n j k xs h = within k j n (drop at xs) h ∙ ap (take k) (drop-drop j at xs)
+part_part at n j k xs h = within k j n (drop at xs) h ∙ ap (take k) (drop-drop j at xs)
 
 -- what the code's `&s[a..b]` holds
 pub part_slice : (a b k : ℕ) (xs : List ℕ) → b ≡ a + k → take (b - a) (drop a xs) ≡ part a k xs
@@ -103,9 +103,9 @@ part_slice a b k xs e =
     rw f
 
 -- a record's bytes are its fields' bytes
-pub part-split : (at k n : ℕ) (xs ys s : List ℕ) → length xs ≡ k → length ys ≡ n → part at (k + n) s ≡ xs ++ ys → (part at k s ≡ xs) × (part (at + k) n s ≡ ys)
+pub part_split : (at k n : ℕ) (xs ys s : List ℕ) → length xs ≡ k → length ys ≡ n → part at (k + n) s ≡ xs ++ ys → (part at k s ≡ xs) × (part (at + k) n s ≡ ys)
 unfolding part
-part-split at k n xs ys s e f h =
+part_split at k n xs ys s e f h =
     let d = drop at s in
     let i : k ≤ k + n = omega arith in
     let g : drop k (take (k + n) d) ≡ ys = ap (drop k) h ∙ drop_at xs ys k e in (
@@ -116,9 +116,9 @@ part-split at k n xs ys s e f h =
 -- ---- a part of what was put
 
 -- inside it
-part-put-in : (at j k : ℕ) (ys xs : List ℕ) → at + length ys ≤ length xs → j + k ≤ length ys → part (at + j) k (put at ys xs) ≡ part j k ys
+part_put_in : (at j k : ℕ) (ys xs : List ℕ) → at + length ys ≤ length xs → j + k ≤ length ys → part (at + j) k (put at ys xs) ≡ part j k ys
 unfolding part put
-part-put-in at j k ys xs h i =
+part_put_in at j k ys xs h i =
     let r : List ℕ = drop (at + length ys) xs in
     let le : j ≤ length ys = omega arith in
     let lt : k ≤ length (drop j ys) = simp length-drop (omega arith) in
@@ -126,14 +126,14 @@ part-put-in at j k ys xs h i =
     ∙ take-append-le k (drop j ys) r lt
 
 -- at the same place
-pub part-put-same : (at k : ℕ) (ys xs : List ℕ) → length ys ≡ k → at + k ≤ length xs → part at k (put at ys xs) ≡ ys
-part-put-same at k ys xs e h =
+pub part_put_same : (at k : ℕ) (ys xs : List ℕ) → length ys ≡ k → at + k ≤ length xs → part at k (put at ys xs) ≡ ys
+part_put_same at k ys xs e h =
     let l : at + length ys ≤ length xs = omega arith in
     let i : 0 + length ys ≤ length ys = omega arith in
     ap (λ (n : ℕ). part at n (put at ys xs)) (sym e)
     ∙ ap (λ (n : ℕ). part n (length ys) (put at ys xs)) (sym (add-zero at))
-    ∙ part-put-in at 0 (length ys) ys xs l i
-    ∙ part-all ys
+    ∙ part_put_in at 0 (length ys) ys xs l i
+    ∙ part_all ys
 
 front : (b n : ℕ) (p q : List ℕ) → b + n ≤ length p → part b n (p ++ q) ≡ part b n p
 unfolding part
@@ -142,17 +142,17 @@ front b n p q h =
     ap (take n) (drop-append-le b p q (omega arith)) ∙ take-append-le n (drop b p) q lt
 
 -- before it
-pub part-put-before : (at b n : ℕ) (ys xs : List ℕ) → at ≤ length xs → b + n ≤ at → part b n (put at ys xs) ≡ part b n xs
+pub part_put_before : (at b n : ℕ) (ys xs : List ℕ) → at ≤ length xs → b + n ≤ at → part b n (put at ys xs) ≡ part b n xs
 unfolding put
-part-put-before at b n ys xs h i =
+part_put_before at b n ys xs h i =
     let l : b + n ≤ length (take at xs) = simp length-take (omega arith) in
     front b n (take at xs) (ys ++ drop (at + length ys) xs) l
     ∙ sym (front b n (take at xs) (drop at xs) l)
     ∙ ap (part b n) (take-append-drop at xs)
 
-drop-put : (at : ℕ) (ys xs : List ℕ) → at + length ys ≤ length xs → drop (at + length ys) (put at ys xs) ≡ drop (at + length ys) xs
+drop_put : (at : ℕ) (ys xs : List ℕ) → at + length ys ≤ length xs → drop (at + length ys) (put at ys xs) ≡ drop (at + length ys) xs
 unfolding put
-drop-put at ys xs h =
+drop_put at ys xs h =
     let r : List ℕ = drop (at + length ys) xs in
     ap (drop (at + length ys)) (sym (append_assoc (take at xs) ys r))
     ∙ drop_at (take at xs ++ ys) r (at + length ys) (simp (length-append, length-take) (omega arith))
@@ -162,38 +162,38 @@ unfolding put
 take_put at ys xs h = take_at (take at xs) (ys ++ drop (at + length ys) xs) at (length-take-le at xs h)
 
 -- after it
-pub part-put-after : (at b n : ℕ) (ys xs : List ℕ) → at + length ys ≤ length xs → at + length ys ≤ b → part b n (put at ys xs) ≡ part b n xs
+pub part_put_after : (at b n : ℕ) (ys xs : List ℕ) → at + length ys ≤ length xs → at + length ys ≤ b → part b n (put at ys xs) ≡ part b n xs
 unfolding part
-part-put-after at b n ys xs h i =
+part_put_after at b n ys xs h i =
     let e : at + length ys + (b - (at + length ys)) ≡ b = omega arith in
     ap (take n)
     (ap (λ (k : ℕ). drop k (put at ys xs)) (sym e)
     ∙ sym (drop-drop (b - (at + length ys)) (at + length ys) (put at ys xs))
-    ∙ ap (drop (b - (at + length ys))) (drop-put at ys xs h)
+    ∙ ap (drop (b - (at + length ys))) (drop_put at ys xs h)
     ∙ drop-drop (b - (at + length ys)) (at + length ys) xs
     ∙ ap (λ (k : ℕ). drop k xs) e)
 
 -- an element before it, and after it
-pub getD-put-before : (at i : ℕ) (ys xs : List ℕ) → at ≤ length xs → i < at → get_or (put at ys xs) i 0 ≡ get_or xs i 0
+pub get_d_put_before : (at i : ℕ) (ys xs : List ℕ) → at ≤ length xs → i < at → get_or (put at ys xs) i 0 ≡ get_or xs i 0
 unfolding put
-getD-put-before at i ys xs h l =
+get_d_put_before at i ys xs h l =
     let k : i < length (take at xs) = rw length-take-le l in
     get_or-append (take at xs) (ys ++ drop (at + length ys) xs) 0 i k ∙ get_or-take at xs i 0 l
 
-pub getD-put-after : (at i : ℕ) (ys xs : List ℕ) → at + length ys ≤ length xs → at + length ys ≤ i → get_or (put at ys xs) i 0 ≡ get_or xs i 0
-getD-put-after at i ys xs h l =
+pub get_d_put_after : (at i : ℕ) (ys xs : List ℕ) → at + length ys ≤ length xs → at + length ys ≤ i → get_or (put at ys xs) i 0 ≡ get_or xs i 0
+get_d_put_after at i ys xs h l =
     let e : at + length ys + (i - (at + length ys)) ≡ i = omega arith in
     ap (λ (k : ℕ). get_or (put at ys xs) k 0) (sym e)
     ∙ sym (get_or-drop (at + length ys) (put at ys xs) (i - (at + length ys)) 0)
-    ∙ ap (λ (r : List ℕ). get_or r (i - (at + length ys)) 0) (drop-put at ys xs h)
+    ∙ ap (λ (r : List ℕ). get_or r (i - (at + length ys)) 0) (drop_put at ys xs h)
     ∙ get_or-drop (at + length ys) xs (i - (at + length ys)) 0
     ∙ ap (λ (k : ℕ). get_or xs k 0) e
 
 -- ---- several puts
 
-pub put-none : (at : ℕ) (xs : List ℕ) → put at [] xs ≡ xs
+pub put_none : (at : ℕ) (xs : List ℕ) → put at [] xs ≡ xs
 unfolding put
-put-none at xs = rw add-zero (take-append-drop at xs)
+put_none at xs = rw add-zero (take-append-drop at xs)
 
 -- over the whole
 pub put_all : (ys xs : List ℕ) → length ys ≡ length xs → put 0 ys xs ≡ ys
@@ -201,9 +201,9 @@ unfolding put
 put_all ys xs e = rw (zero-add, e, drop-length, append-nil)
 
 -- what stands there already
-pub put-part : (at k : ℕ) (xs : List ℕ) → at + k ≤ length xs → put at (part at k xs) xs ≡ xs
+pub put_part : (at k : ℕ) (xs : List ℕ) → at + k ≤ length xs → put at (part at k xs) xs ≡ xs
 unfolding put part
-put-part at k xs h =
+put_part at k xs h =
     let e : length (take k (drop at xs)) ≡ k = length-take-le k (drop at xs) (simp length-drop (omega arith)) in
     rw (e, ← drop-drop k at xs, take-append-drop k (drop at xs), take-append-drop at xs)
 
@@ -212,56 +212,56 @@ over : (at : ℕ) (ys s t : List ℕ) → take at t ≡ take at s → drop (at +
 unfolding put
 over at ys s t p q = rw (p, q)
 
-put-again : (at : ℕ) (xs ys s : List ℕ) → length xs ≡ length ys → at + length ys ≤ length s → put at ys (put at xs s) ≡ put at ys s
-put-again at xs ys s e h =
+put_again : (at : ℕ) (xs ys s : List ℕ) → length xs ≡ length ys → at + length ys ≤ length s → put at ys (put at xs s) ≡ put at ys s
+put_again at xs ys s e h =
     let l : at + length xs ≤ length s = omega arith in
-    let d : drop (at + length ys) (put at xs s) ≡ drop (at + length ys) s = subst (λ (n : ℕ). drop (at + n) (put at xs s) ≡ drop (at + n) s) e (drop-put at xs s l) in
+    let d : drop (at + length ys) (put at xs s) ≡ drop (at + length ys) s = subst (λ (n : ℕ). drop (at + n) (put at xs s) ≡ drop (at + n) s) e (drop_put at xs s l) in
     over at ys s (put at xs s) (take_put at xs s (omega arith)) d
 
 -- one run after another
-pub put-put : (at : ℕ) (xs ys s : List ℕ) → at + length xs + length ys ≤ length s → put (at + length xs) ys (put at xs s) ≡ put at (xs ++ ys) s
+pub put_put : (at : ℕ) (xs ys s : List ℕ) → at + length xs + length ys ≤ length s → put (at + length xs) ys (put at xs s) ≡ put at (xs ++ ys) s
 unfolding put
-put-put at xs ys s h =
+put_put at xs ys s h =
     let p : List ℕ = take at s in
     let r : List ℕ = drop (at + length xs) s in
     let l : length (p ++ xs) ≡ at + length xs = simp (length-append, length-take) (omega arith) in
     ap (λ (a : List ℕ). a ++ (ys ++ drop (at + length xs + length ys) (put at xs s)))
     (ap (take (at + length xs)) (sym (append_assoc p xs r)) ∙ take_at (p ++ xs) r (at + length xs) l)
     ∙ ap (λ (a : List ℕ). (p ++ xs) ++ (ys ++ a))
-    (sym (drop-drop (length ys) (at + length xs) (put at xs s)) ∙ ap (drop (length ys)) (drop-put at xs s (omega arith)) ∙ drop-drop (length ys) (at + length xs) s)
+    (sym (drop-drop (length ys) (at + length xs) (put at xs s)) ∙ ap (drop (length ys)) (drop_put at xs s (omega arith)) ∙ drop-drop (length ys) (at + length xs) s)
     ∙ simp (append_assoc, length-append, add_assoc)
 
 -- the same, at a place that is known by a sum
 pub put_next : (at k n : ℕ) (xs ys s : List ℕ) → length xs ≡ k → length ys ≡ n → at + k + n ≤ length s → put (at + k) ys (put at xs s) ≡ put at (xs ++ ys) s
 put_next at k n xs ys s e f h =
-    subst (λ (j : ℕ). put (at + j) ys (put at xs s) ≡ put at (xs ++ ys) s) e (put-put at xs ys s (omega arith))
+    subst (λ (j : ℕ). put (at + j) ys (put at xs s) ≡ put at (xs ++ ys) s) e (put_put at xs ys s (omega arith))
 
 -- over what was put at the same place and is no longer than it
-pub put-wider : (at : ℕ) (xs ys t : List ℕ) → length xs ≤ length ys → at + length ys ≤ length t → put at ys (put at xs t) ≡ put at ys t
-put-wider at xs ys t l h =
+pub put_wider : (at : ℕ) (xs ys t : List ℕ) → length xs ≤ length ys → at + length ys ≤ length t → put at ys (put at xs t) ≡ put at ys t
+put_wider at xs ys t l h =
     let n : ℕ = length xs in
     let a : List ℕ = take n ys in
     let b : List ℕ = drop n ys in
     let la : length a ≡ n = length-take-le n ys l in
     let lb : length b ≡ length ys - n = length-drop n ys in
-    let lx : length (put at xs t) ≡ length t = length-put at xs t (omega arith) in
+    let lx : length (put at xs t) ≡ length t = length_put at xs t (omega arith) in
     let cut : (u : List ℕ) → length u ≡ length t → put at ys u ≡ put (at + n) b (put at a u) =
     λ u e. ap (λ (y : List ℕ). put at y u) (sym (take-append-drop n ys)) ∙ sym (put_next at n (length ys - n) a b u la lb (omega arith)) in
     cut (put at xs t) lx
-    ∙ ap (put (at + n) b) (put-again at xs a t (sym la) (omega arith))
+    ∙ ap (put (at + n) b) (put_again at xs a t (sym la) (omega arith))
     ∙ sym (cut t refl)
 
 -- over what was put within the same bytes
-pub put-within : (at bt : ℕ) (xs ys t : List ℕ) → at ≤ bt → bt + length xs ≤ at + length ys → at + length ys ≤ length t → put at ys (put bt xs t) ≡ put at ys t
-put-within at bt xs ys t ab l h =
+pub put_within : (at bt : ℕ) (xs ys t : List ℕ) → at ≤ bt → bt + length xs ≤ at + length ys → at + length ys ≤ length t → put at ys (put bt xs t) ≡ put at ys t
+put_within at bt xs ys t ab l h =
     let m : ℕ = bt - at in
     let e : at + m ≡ bt = omega arith in
     let x : List ℕ = part at m t in
     let lx : length x ≡ m = length_part at m t (omega arith) in
     let w : put bt xs t ≡ put at (x ++ xs) t =
-    ap₂ (λ (n : ℕ) (u : List ℕ). put n xs u) (sym e) (sym (put-part at m t (omega arith)))
+    ap₂ (λ (n : ℕ) (u : List ℕ). put n xs u) (sym e) (sym (put_part at m t (omega arith)))
     ∙ put_next at m (length xs) x xs t lx refl (omega arith) in
-    ap (put at ys) w ∙ put-wider at (x ++ xs) ys t (omega (arith, length-append x xs)) h
+    ap (put at ys) w ∙ put_wider at (x ++ xs) ys t (omega (arith, length-append x xs)) h
 
 -- two stores in a row, as the code has them: t after the first, u after the second
 pub chain : (at k n : ℕ) (xs ys s t u : List ℕ) → length xs ≡ k → length ys ≡ n → at + k + n ≤ length s
@@ -278,8 +278,8 @@ pub stored : (at k : ℕ) (xs s : List ℕ) {t : List ℕ} → length xs ≡ k �
 stored at k xs s e p = record { long = e; bytes = p }
 
 -- the next, at the place where those before it end
-pub then-stored : {at k : ℕ} {xs s t : List ℕ} → Stored at k xs s t → (n : ℕ) (ys : List ℕ) {u : List ℕ} → length ys ≡ n → at + k + n ≤ length s → u ≡ put (at + k) ys t → Stored at (k + n) (xs ++ ys) s u
-then-stored {at} {k} {xs} {s} {t} r n ys {u} e h p = record { long = length_two k n xs ys r.long e; bytes = chain at k n xs ys s t u r.long e h r.bytes p }
+pub then_stored : {at k : ℕ} {xs s t : List ℕ} → Stored at k xs s t → (n : ℕ) (ys : List ℕ) {u : List ℕ} → length ys ≡ n → at + k + n ≤ length s → u ≡ put (at + k) ys t → Stored at (k + n) (xs ++ ys) s u
+then_stored {at} {k} {xs} {s} {t} r n ys {u} e h p = record { long = length_two k n xs ys r.long e; bytes = chain at k n xs ys s t u r.long e h r.bytes p }
 
 -- the second run stored first
 pub put_front : (at k n : ℕ) (xs ys s : List ℕ) → length xs ≡ k → length ys ≡ n → at + k + n ≤ length s → put at xs (put (at + k) ys s) ≡ put at (xs ++ ys) s
@@ -297,9 +297,9 @@ put_front at k n xs ys s e f h =
     ∙ ap (λ (n : ℕ). take at s ++ ((xs ++ ys) ++ drop n s)) c
 
 -- n bytes put behind the first of n + 1 zeros
-pub put-behind-zero : (n : ℕ) (ys : List ℕ) → length ys ≡ n → put 1 ys (replicate (suc n) 0) ≡ 0 ∷ ys
+pub put_behind_zero : (n : ℕ) (ys : List ℕ) → length ys ≡ n → put 1 ys (replicate (suc n) 0) ≡ 0 ∷ ys
 unfolding put
-put-behind-zero n ys e =
+put_behind_zero n ys e =
     let l : length (replicate {A = ℕ} (suc n) 0) ≤ 1 + length ys = omega (arith, length-replicate {A = ℕ} (suc n) 0) in
     ap (λ (r : List ℕ). 0 ∷ (ys ++ r)) (drop_of_length-le (replicate (suc n) 0) l) ∙ ap (λ (r : List ℕ). 0 ∷ r) (append-nil ys)
 
@@ -310,69 +310,69 @@ put_one at x xs h = ap (λ (n : ℕ). take at xs ++ x ∷ drop n xs) (add-one at
 
 -- ---- the number at a place
 
-pub be-at : (at : ℕ) (s : List ℕ) → at < length s → be (part at 1 s) ≡ get_or s at 0
-be-at at s h = ap be (part-one at s h) ∙ N.be-one (get_or s at 0)
+pub be_at : (at : ℕ) (s : List ℕ) → at < length s → be (part at 1 s) ≡ get_or s at 0
+be_at at s h = ap be (part_one at s h) ∙ N.be_one (get_or s at 0)
 
 -- two halves
-pub be-two : (at j k : ℕ) (s : List ℕ) → at + (j + k) ≤ length s → be (part at (j + k) s) ≡ be (part at j s) * 256 ^ k + be (part (at + j) k s)
-be-two at j k s h =
-    ap be (part-add at j k s)
-    ∙ N.be-append (part at j s) (part (at + j) k s)
+pub be_two : (at j k : ℕ) (s : List ℕ) → at + (j + k) ≤ length s → be (part at (j + k) s) ≡ be (part at j s) * 256 ^ k + be (part (at + j) k s)
+be_two at j k s h =
+    ap be (part_add at j k s)
+    ∙ N.be_append (part at j s) (part (at + j) k s)
     ∙ ap (λ (n : ℕ). be (part at j s) * 256 ^ n + be (part (at + j) k s)) (length_part (at + j) k s (omega arith))
 
 -- one byte more
-pub be-more : (at k : ℕ) (s : List ℕ) → at + k < length s → be (part at (k + 1) s) ≡ be (part at k s) * 256 + get_or s (at + k) 0
-be-more at k s h = ap be (part-more at k s h) ∙ N.be-snoc (part at k s) (get_or s (at + k) 0)
+pub be_more : (at k : ℕ) (s : List ℕ) → at + k < length s → be (part at (k + 1) s) ≡ be (part at k s) * 256 + get_or s (at + k) 0
+be_more at k s h = ap be (part_more at k s h) ∙ N.be_snoc (part at k s) (get_or s (at + k) 0)
 
 -- the number at a place is below 256 to its width
-pub be-part-lt : (at k : ℕ) (s : List ℕ) → AreBytes s → at + k ≤ length s → be (part at k s) < 256 ^ k
-be-part-lt at k s b h = subst (λ (n : ℕ). be (part at k s) < 256 ^ n) (length_part at k s h) (N.be-lt (part at k s) (bytes-part at k s b))
+pub be_part_lt : (at k : ℕ) (s : List ℕ) → AreBytes s → at + k ≤ length s → be (part at k s) < 256 ^ k
+be_part_lt at k s b h = subst (λ (n : ℕ). be (part at k s) < 256 ^ n) (length_part at k s h) (N.be_lt (part at k s) (bytes_part at k s b))
 
 -- the bytes at a place are the bytes of their number
-pub bytes-at : (at k : ℕ) (s : List ℕ) → AreBytes s → at + k ≤ length s → bytes_of k (be (part at k s)) ≡ part at k s
-bytes-at at k s b h = ap (λ (n : ℕ). bytes_of n (be (part at k s))) (sym (length_part at k s h)) ∙ N.bytesOf-be (part at k s) (bytes-part at k s b)
+pub bytes_at : (at k : ℕ) (s : List ℕ) → AreBytes s → at + k ≤ length s → bytes_of k (be (part at k s)) ≡ part at k s
+bytes_at at k s b h = ap (λ (n : ℕ). bytes_of n (be (part at k s))) (sym (length_part at k s h)) ∙ N.bytes_of_be (part at k s) (bytes_part at k s b)
 
 -- four bytes at a place, the first the lowest of a number
-pub turned-at : (at a b c d : ℕ) (s : List ℕ) → at + 4 ≤ length s → (a ≡ get_or s at 0) × (a < 256) → (b ≡ get_or s (at + 1) 0) × (b < 256) → (c ≡ get_or s (at + 2) 0) × (c < 256) → (d ≡ get_or s (at + 3) 0) × (d < 256)
+pub turned_at : (at a b c d : ℕ) (s : List ℕ) → at + 4 ≤ length s → (a ≡ get_or s at 0) × (a < 256) → (b ≡ get_or s (at + 1) 0) × (b < 256) → (c ≡ get_or s (at + 2) 0) × (c < 256) → (d ≡ get_or s (at + 3) 0) × (d < 256)
     → bytes_of 4 (a + 256 * (b + 256 * (c + 256 * d))) ≡ reverse (part at 4 s)
-turned-at at a b c d s h p q r t =
-    let e : part at 4 s ≡ a ∷ b ∷ c ∷ d ∷ [] = part-four at s h ∙ (cc) in
-    N.lowest-first a b c d p.1 q.1 r.1 t.1 ∙ sym (ap reverse e)
+turned_at at a b c d s h p q r t =
+    let e : part at 4 s ≡ a ∷ b ∷ c ∷ d ∷ [] = part_four at s h ∙ (cc) in
+    N.lowest_first a b c d p.1 q.1 r.1 t.1 ∙ sym (ap reverse e)
 
 -- one byte stored
-pub store-one : (at v : ℕ) (s : List ℕ) → v < 256 → at < length s → set s at v ≡ put at (bytes_of 1 v) s
+pub store_one : (at v : ℕ) (s : List ℕ) → v < 256 → at < length s → set s at v ≡ put at (bytes_of 1 v) s
 unfolding bytes_of
-store-one at v s l h = sym (put_one at v s h) ∙ ap (λ (x : ℕ). put at (x ∷ []) s) (sym (ap (λ (x : ℕ). x % 256) (div-one v) ∙ mod-eq_of_lt l))
+store_one at v s l h = sym (put_one at v s h) ∙ ap (λ (x : ℕ). put at (x ∷ []) s) (sym (ap (λ (x : ℕ). x % 256) (div-one v) ∙ mod-eq_of_lt l))
 
 -- a number stored in two halves
 pub store_two : (at j k v hi lo : ℕ) (s t u : List ℕ) → at + (j + k) ≤ length s → bytes_of j hi ≡ bytes_of j (v / 256 ^ k) → bytes_of k lo ≡ bytes_of k v
     → t ≡ put at (bytes_of j hi) s → u ≡ put (at + j) (bytes_of k lo) t → u ≡ put at (bytes_of (j + k) v) s
 store_two at j k v hi lo s t u h p q e f =
-    chain at j k (bytes_of j hi) (bytes_of k lo) s t u (N.length-bytesOf j hi) (N.length-bytesOf k lo) (omega arith) e f
-    ∙ ap (λ (l : List ℕ). put at l s) (ap₂ (λ (x y : List ℕ). x ++ y) p q ∙ sym (N.bytesOf-two j k v))
+    chain at j k (bytes_of j hi) (bytes_of k lo) s t u (N.length_bytes_of j hi) (N.length_bytes_of k lo) (omega arith) e f
+    ∙ ap (λ (l : List ℕ). put at l s) (ap₂ (λ (x y : List ℕ). x ++ y) p q ∙ sym (N.bytes_of_two j k v))
 
 -- ---- all zero
 
-pub allZero-append : (xs ys : List ℕ) → allZero (xs ++ ys) ≡ cond (allZero xs) (allZero ys) false
-unfolding allZero
-allZero-append [] ys = refl
-allZero-append (x ∷ xs) ys = ap (λ (b : Bool). cond (eqb x 0) b false) (allZero-append xs ys) ∙ both (eqb x 0) (allZero xs)
+pub all_zero_append : (xs ys : List ℕ) → all_zero (xs ++ ys) ≡ cond (all_zero xs) (all_zero ys) false
+unfolding all_zero
+all_zero_append [] ys = refl
+all_zero_append (x ∷ xs) ys = ap (λ (b : Bool). cond (eqb x 0) b false) (all_zero_append xs ys) ∙ both (eqb x 0) (all_zero xs)
   where
-    both : (p q : Bool) → cond p (cond q (allZero ys) false) false ≡ cond (cond p q false) (allZero ys) false
+    both : (p q : Bool) → cond p (cond q (all_zero ys) false) false ≡ cond (cond p q false) (all_zero ys) false
     both true q = refl
     both false q = refl
 
 -- what is all zero
-pub allZero-true : (xs : List ℕ) → allZero xs ≡ true → xs ≡ replicate (length xs) 0
-unfolding allZero
-allZero-true [] h = refl
-allZero-true (x ∷ xs) h = go (eqb x 0) refl (allZero-true xs) h
+pub all_zero_true : (xs : List ℕ) → all_zero xs ≡ true → xs ≡ replicate (length xs) 0
+unfolding all_zero
+all_zero_true [] h = refl
+all_zero_true (x ∷ xs) h = go (eqb x 0) refl (all_zero_true xs) h
   where
-    go : (p : Bool) → eqb x 0 ≡ p → (allZero xs ≡ true → xs ≡ replicate (length xs) 0) → cond p (allZero xs) false ≡ true → x ∷ xs ≡ 0 ∷ replicate (length xs) 0
+    go : (p : Bool) → eqb x 0 ≡ p → (all_zero xs ≡ true → xs ≡ replicate (length xs) 0) → cond p (all_zero xs) false ≡ true → x ∷ xs ≡ 0 ∷ replicate (length xs) 0
     go true e rest h = ap₂ {C = List ℕ} (λ a l. a ∷ l) (eqb-true x 0 e) (rest h)
     go false e rest h = cc
 
-pub allZero-zeros : (n : ℕ) → allZero (replicate n 0) ≡ true
-unfolding allZero
-allZero-zeros zero = refl
-allZero-zeros (suc n) = allZero-zeros n
+pub all_zero_zeros : (n : ℕ) → all_zero (replicate n 0) ≡ true
+unfolding all_zero
+all_zero_zeros zero = refl
+all_zero_zeros (suc n) = all_zero_zeros n

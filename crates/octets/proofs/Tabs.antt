@@ -10,40 +10,40 @@ use lib.Seq.{drop-cons, set_at, append_snoc, get_or_at}
 use Rattle.octets.specs.Tab.{tab}
 
 module _ {A : Type 0} (f : ℕ → A) where
-  pub length-tab : (n : ℕ) → length (tab f n) ≡ n
+  pub length_tab : (n : ℕ) → length (tab f n) ≡ n
   unfolding tab
-  length-tab zero = refl
-  length-tab (suc n) = length-append (tab f n) (f n ∷ []) ∙ add-one _ ∙ ap suc (length-tab n)
+  length_tab zero = refl
+  length_tab (suc n) = length-append (tab f n) (f n ∷ []) ∙ add-one _ ∙ ap suc (length_tab n)
 
   -- none stored yet
-  pub tab-none : (d : List A) → d ≡ tab f 0 ++ drop 0 d
+  pub tab_none : (d : List A) → d ≡ tab f 0 ++ drop 0 d
   unfolding tab
-  tab-none d = refl
+  tab_none d = refl
 
   -- a turn: f i is stored at i
-  pub tab-more : (d xs : List A) (z : A) (i : ℕ) → xs ≡ tab f i ++ drop i d → i < length d → set xs i (f i) ≡ tab f (i + 1) ++ drop (i + 1) d
+  pub tab_more : (d xs : List A) (z : A) (i : ℕ) → xs ≡ tab f i ++ drop i d → i < length d → set xs i (f i) ≡ tab f (i + 1) ++ drop (i + 1) d
   unfolding tab
-  tab-more d xs z i e h =
+  tab_more d xs z i e h =
       ap (λ (l : List A). set l i (f i)) (e ∙ ap (λ (r : List A). tab f i ++ r) (drop-cons d i z h))
-      ∙ set_at (tab f i) (get_or d i z) (drop (suc i) d) (f i) i (length-tab i)
+      ∙ set_at (tab f i) (get_or d i z) (drop (suc i) d) (f i) i (length_tab i)
       ∙ sym (append_snoc (tab f i) (f i) (drop (suc i) d))
       ∙ ap (λ (n : ℕ). tab f n ++ drop n d) (sym (add-one i))
 
-  pub getD-tab : (z : A) (n i : ℕ) → i < n → get_or (tab f n) i z ≡ f i
+  pub get_d_tab : (z : A) (n i : ℕ) → i < n → get_or (tab f n) i z ≡ f i
   unfolding tab
-  getD-tab z zero i h = absurd (omega arith)
-  getD-tab z (suc n) i h = go (getD-tab z n i) (dec_lt i n)
+  get_d_tab z zero i h = absurd (omega arith)
+  get_d_tab z (suc n) i h = go (get_d_tab z n i) (dec_lt i n)
     where
       go : (i < n → get_or (tab f n) i z ≡ f i) → Dec (i < n) → get_or (tab f n ++ (f n ∷ [])) i z ≡ f i
       go rest (yes l) =
-          let k : i < length (tab f n) = subst (λ (m : ℕ). i < m) (sym (length-tab n)) l in
+          let k : i < length (tab f n) = subst (λ (m : ℕ). i < m) (sym (length_tab n)) l in
           get_or-append (tab f n) (f n ∷ []) z i k ∙ rest l
       go rest (no l) =
           let e : i ≡ n = omega arith in
-          get_or_at (tab f n) (f n) [] z i (length-tab n ∙ sym e) ∙ ap f (sym e)
+          get_or_at (tab f n) (f n) [] z i (length_tab n ∙ sym e) ∙ ap f (sym e)
 
 -- the rest of an array that was filled with one value
-pub drop-replicate : {A : Type 0} (z : A) (n i : ℕ) → drop i (replicate n z) ≡ replicate (n - i) z
-drop-replicate z n zero = let e : n - 0 ≡ n = omega arith in ap (λ (m : ℕ). replicate m z) (sym e)
-drop-replicate z zero (suc i) = let e : 0 - suc i ≡ 0 = omega arith in ap (λ (m : ℕ). replicate m z) (sym e)
-drop-replicate z (suc n) (suc i) = drop-replicate z n i ∙ (let e : n - i ≡ suc n - suc i = omega arith in ap (λ (m : ℕ). replicate m z) e)
+pub drop_replicate : {A : Type 0} (z : A) (n i : ℕ) → drop i (replicate n z) ≡ replicate (n - i) z
+drop_replicate z n zero = let e : n - 0 ≡ n = omega arith in ap (λ (m : ℕ). replicate m z) (sym e)
+drop_replicate z zero (suc i) = let e : 0 - suc i ≡ 0 = omega arith in ap (λ (m : ℕ). replicate m z) (sym e)
+drop_replicate z (suc n) (suc i) = drop_replicate z n i ∙ (let e : n - i ≡ suc n - suc i = omega arith in ap (λ (m : ℕ). replicate m z) e)

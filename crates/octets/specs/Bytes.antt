@@ -28,6 +28,6 @@ abbrev pub AreBytes : List ℕ → Type 0
 AreBytes xs = (i : ℕ) → get_or xs i 0 < 256
 
 -- every element is 0
-unfoldable pub allZero : List ℕ → Bool
-allZero [] = true
-allZero (x ∷ xs) = cond (eqb x 0) (allZero xs) false
+unfoldable pub all_zero : List ℕ → Bool
+all_zero [] = true
+all_zero (x ∷ xs) = cond (eqb x 0) (all_zero xs) false

@@ -5,50 +5,50 @@ use Rattle.std.proofs.lemmas.Bool.{lt-leb, not-true, not-false}
 
 module _ {A : Type 0} (z x y : A) where
   -- a test whose value the code has
-  pub if-true : (b : Bool) → b ≡ true → z ≡ x → z ≡ cond b x y
-  if-true b h e = rw h e
+  pub if_true : (b : Bool) → b ≡ true → z ≡ x → z ≡ cond b x y
+  if_true b h e = rw h e
 
-  pub if-false : (b : Bool) → b ≡ false → z ≡ y → z ≡ cond b x y
-  if-false b h e = rw h e
+  pub if_false : (b : Bool) → b ≡ false → z ≡ y → z ≡ cond b x y
+  if_false b h e = rw h e
 
   -- a test of two numbers that the code made itself
-  pub if-eq : (m n : ℕ) → m ≡ n → z ≡ x → z ≡ cond (eqb m n) x y
-  if-eq m n h e = if-true (eqb m n) (eq-eqb m n h) e
+  pub if_eq : (m n : ℕ) → m ≡ n → z ≡ x → z ≡ cond (eqb m n) x y
+  if_eq m n h e = if_true (eqb m n) (eq-eqb m n h) e
 
-  pub if-ne : (m n : ℕ) → (m ≡ n → ⊥) → z ≡ y → z ≡ cond (eqb m n) x y
-  if-ne m n h e = if-false (eqb m n) (ne_eqb m n h) e
+  pub if_ne : (m n : ℕ) → (m ≡ n → ⊥) → z ≡ y → z ≡ cond (eqb m n) x y
+  if_ne m n h e = if_false (eqb m n) (ne_eqb m n h) e
 
-  pub if-lt : (m n : ℕ) → m < n → z ≡ x → z ≡ cond (ltb m n) x y
-  if-lt m n h e = if-true (ltb m n) (lt-ltb m n h) e
+  pub if_lt : (m n : ℕ) → m < n → z ≡ x → z ≡ cond (ltb m n) x y
+  if_lt m n h e = if_true (ltb m n) (lt-ltb m n h) e
 
-  pub if-ge : (m n : ℕ) → n ≤ m → z ≡ y → z ≡ cond (ltb m n) x y
-  if-ge m n h e = if-false (ltb m n) (le-ltb m n h) e
+  pub if_ge : (m n : ℕ) → n ≤ m → z ≡ y → z ≡ cond (ltb m n) x y
+  if_ge m n h e = if_false (ltb m n) (le-ltb m n h) e
 
-  pub if-le : (m n : ℕ) → m ≤ n → z ≡ x → z ≡ cond (leb m n) x y
-  if-le m n h e = if-true (leb m n) (le-leb m n h) e
+  pub if_le : (m n : ℕ) → m ≤ n → z ≡ x → z ≡ cond (leb m n) x y
+  if_le m n h e = if_true (leb m n) (le-leb m n h) e
 
-  pub if-gt : (m n : ℕ) → n < m → z ≡ y → z ≡ cond (leb m n) x y
-  if-gt m n h e = if-false (leb m n) (lt-leb m n h) e
+  pub if_gt : (m n : ℕ) → n < m → z ≡ y → z ≡ cond (leb m n) x y
+  if_gt m n h e = if_false (leb m n) (lt-leb m n h) e
 
   -- the same of a value that a call gave, and that the call says is the definition's
-  pub if-true-of : (b d : Bool) → d ≡ b → d ≡ true → z ≡ x → z ≡ cond b x y
-  if-true-of b d p h e = if-true b (sym p ∙ h) e
+  pub if_true_of : (b d : Bool) → d ≡ b → d ≡ true → z ≡ x → z ≡ cond b x y
+  if_true_of b d p h e = if_true b (sym p ∙ h) e
 
-  pub if-false-of : (b d : Bool) → d ≡ b → d ≡ false → z ≡ y → z ≡ cond b x y
-  if-false-of b d p h e = if-false b (sym p ∙ h) e
+  pub if_false_of : (b d : Bool) → d ≡ b → d ≡ false → z ≡ y → z ≡ cond b x y
+  if_false_of b d p h e = if_false b (sym p ∙ h) e
 
-  pub if-eq-of : (m n k : ℕ) → k ≡ m → k ≡ n → z ≡ x → z ≡ cond (eqb m n) x y
-  if-eq-of m n k p h e = if-eq m n (sym p ∙ h) e
+  pub if_eq_of : (m n k : ℕ) → k ≡ m → k ≡ n → z ≡ x → z ≡ cond (eqb m n) x y
+  if_eq_of m n k p h e = if_eq m n (sym p ∙ h) e
 
-  pub if-ne-of : (m n k : ℕ) → k ≡ m → (k ≡ n → ⊥) → z ≡ y → z ≡ cond (eqb m n) x y
-  if-ne-of m n k p h e = if-ne m n (λ q. h (p ∙ q)) e
+  pub if_ne_of : (m n k : ℕ) → k ≡ m → (k ≡ n → ⊥) → z ≡ y → z ≡ cond (eqb m n) x y
+  if_ne_of m n k p h e = if_ne m n (λ q. h (p ∙ q)) e
 
   -- where the code tested `!d`
-  pub if-not : (b d : Bool) → d ≡ b → not d ≡ true → z ≡ y → z ≡ cond b x y
-  if-not b d p h e = if-false-of b d p (not-true d h) e
+  pub if_not : (b d : Bool) → d ≡ b → not d ≡ true → z ≡ y → z ≡ cond b x y
+  if_not b d p h e = if_false_of b d p (not-true d h) e
 
-  pub if-not-not : (b d : Bool) → d ≡ b → not d ≡ false → z ≡ x → z ≡ cond b x y
-  if-not-not b d p h e = if-true-of b d p (not-false d h) e
+  pub if_not_not : (b d : Bool) → d ≡ b → not d ≡ false → z ≡ x → z ≡ cond b x y
+  if_not_not b d p h e = if_true_of b d p (not-false d h) e
 
 -- all of them
-pub ruleset guards = (if-eq, if-ne, if-lt, if-ge, if-le, if-gt, if-true, if-false, if-true-of, if-false-of, if-eq-of, if-ne-of, if-not, if-not-not)
+pub ruleset guards = (if_eq, if_ne, if_lt, if_ge, if_le, if_gt, if_true, if_false, if_true_of, if_false_of, if_eq_of, if_ne_of, if_not, if_not_not)

@@ -9,17 +9,17 @@ unfoldable pub order : ℕ → ℕ → Order
 order m n = cond (ltb m n) Less (cond (ltb n m) Greater Equal)
 
 -- the first answer decides, unless it is Equal
-unfoldable pub thenBy : Order → Order → Order
-thenBy Less o = Less
-thenBy Equal o = o
-thenBy Greater o = Greater
+unfoldable pub then_by : Order → Order → Order
+then_by Less o = Less
+then_by Equal o = o
+then_by Greater o = Greater
 
 -- how two byte strings stand: the first byte that differs decides, and a proper prefix is below
 unfoldable pub lex : List ℕ → List ℕ → Order
 lex [] [] = Equal
 lex [] (y ∷ ys) = Less
 lex (x ∷ xs) [] = Greater
-lex (x ∷ xs) (y ∷ ys) = thenBy (order x y) (lex xs ys)
+lex (x ∷ xs) (y ∷ ys) = then_by (order x y) (lex xs ys)
 
 -- the answer with its sides changed
 unfoldable pub turned : Order → Order
@@ -34,13 +34,13 @@ ordering Equal = Ordering.eq
 ordering Greater = Ordering.gt
 
 -- strictly below
-abbrev pub isLess : Order → Bool
-isLess Less = true
-isLess Equal = false
-isLess Greater = false
+abbrev pub is_less : Order → Bool
+is_less Less = true
+is_less Equal = false
+is_less Greater = false
 
 -- the same
-abbrev pub isEqual : Order → Bool
-isEqual Less = false
-isEqual Equal = true
-isEqual Greater = false
+abbrev pub is_equal : Order → Bool
+is_equal Less = false
+is_equal Equal = true
+is_equal Greater = false

@@ -1,7 +1,7 @@
 // Bytes at places of a lent slice: big-endian numbers, runs of bytes, the order of byte strings, and moves.
 ghost use Rattle.std.specs.Prelude.{◌≡◌, reverse, ◌+◌, ◌*◌, ◌%◌, ◌≤◌, ◌<◌, length};
-ghost use Rattle.octets.specs.Bytes.{be, bytes_of, part, put, allZero};
-ghost use Rattle.octets.specs.Order.{order, lex, isLess, isEqual};
+ghost use Rattle.octets.specs.Bytes.{be, bytes_of, part, put, all_zero};
+ghost use Rattle.octets.specs.Order.{order, lex, is_less, is_equal};
 
 // How two numbers or two byte strings stand.
 #[derive(Drop)]
@@ -215,7 +215,7 @@ pub fn compare(a: &[u8], at: usize, b: &[u8], bt: usize, n: usize) -> Order
 // Whether the n bytes at one place stand strictly below those at another.
 pub fn before(a: &[u8], at: usize, b: &[u8], bt: usize, n: usize) -> bool
     requires { (at + n ≤ length a.now) × (bt + n ≤ length b.now) }
-    ensures { result ≡ isLess (lex (part at n a.now) (part bt n b.now)) }
+    ensures { result ≡ is_less (lex (part at n a.now) (part bt n b.now)) }
 {
     match compare(a, at, b, bt, n) {
         Order::Less => true,
@@ -227,7 +227,7 @@ pub fn before(a: &[u8], at: usize, b: &[u8], bt: usize, n: usize) -> bool
 // Whether the n bytes at one place are those at another.
 pub fn same(a: &[u8], at: usize, b: &[u8], bt: usize, n: usize) -> bool
     requires { (at + n ≤ length a.now) × (bt + n ≤ length b.now) }
-    ensures { result ≡ isEqual (lex (part at n a.now) (part bt n b.now)) }
+    ensures { result ≡ is_equal (lex (part at n a.now) (part bt n b.now)) }
 {
     match compare(a, at, b, bt, n) {
         Order::Less => false,
@@ -250,7 +250,7 @@ pub fn compare_id(a: [u8; 16], b: [u8; 16]) -> Order
 
 // Whether two identifiers are the same.
 pub fn same_id(a: [u8; 16], b: [u8; 16]) -> bool
-    ensures { result ≡ isEqual (lex a b) }
+    ensures { result ≡ is_equal (lex a b) }
 {
     if load64(&a, 0) != load64(&b, 0) {
         return false;
@@ -285,7 +285,7 @@ pub fn move_down(s: &mut [u8], at: usize, by: usize, n: usize)
 // Whether the n bytes at a place are all 0.
 pub fn all_zero(s: &[u8], at: usize, n: usize) -> bool
     requires { at + n ≤ length s.now }
-    ensures { result ≡ allZero (part at n s.now) }
+    ensures { result ≡ all_zero (part at n s.now) }
 {
     let mut clean = true;
     let mut i: usize = 0;

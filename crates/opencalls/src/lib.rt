@@ -1,21 +1,21 @@
 // Open: an asked volume that is stored is answered, else a new one is made, with spares for what was not asked. A plan decides and stores nothing. It answers on every input, 20 first.
 ghost use Rattle.std.specs.Prelude.{◌≡◌, true, ◌&&◌, ◌||◌};
-ghost use Rattle.std.specs.Answers.{code};
+ghost use Rattle.basics.specs.Answers.{code};
 ghost use Rattle.rules.specs.Lists.{any};
 ghost use Rattle.rules.specs.Records.{Volume as RulesVolume};
-ghost use Rattle.rules.specs.Forms.{volumeForm};
-ghost use Rattle.rules.specs.Tables.{Table, sameId, latestLsn};
-ghost use Rattle.rules.specs.Open.{agreesOn, orSpare, logNamed, vidFree, logFree, syncAt, askedVolume, openedNew, opened};
-ghost use Rattle.volume.specs.Volumes.{syncSays, volumeSays};
-ghost use Rattle.layout.specs.Records.{volumeBytes};
-ghost use Rattle.layout.specs.Tables.{volumesIn, volumesOk, commitsIn, commitsOk};
+ghost use Rattle.rules.specs.Forms.{volume_form};
+ghost use Rattle.rules.specs.Tables.{Table, same_id, latest_lsn};
+ghost use Rattle.rules.specs.Open.{agrees_on, or_spare, log_named, vid_free, log_free, sync_at, asked_volume, opened_new, opened};
+ghost use Rattle.volume.specs.Volumes.{sync_says, volume_says};
+ghost use Rattle.layout.specs.Records.{volume_bytes};
+ghost use Rattle.layout.specs.Tables.{volumes_in, volumes_ok, commits_in, commits_ok};
 ghost use Rattle.layout.specs.Lent.{lent, after};
-ghost use Rattle.opencalls.specs.Opens.{askedSays, asked, spares, open_in, outAfter, newVolume, allFree, AskedAt, Planned};
+ghost use Rattle.opencalls.specs.Opens.{asked_says, asked, spares, open_in, out_after, new_volume, all_free, AskedAt, Planned};
 
 use commits::{Place, commits_formed, lsn_at};
-use core::commit_hash;
-use core::id::LogId;
-use core::lsn::Lsn;
+use basics::commit_hash;
+use basics::id::LogId;
+use basics::lsn::Lsn;
 use layout::VOLUME;
 use octets::same_id;
 use table::Spot;
@@ -43,7 +43,7 @@ pub enum Opening {
 
 // The identifier that was asked, or its spare.
 fn chosen(w: Wanted) -> [u8; 16]
-    ensures { result ≡ orSpare (askedSays w) w.spare }
+    ensures { result ≡ or_spare (asked_says w) w.spare }
 {
     if w.asked {
         return w.id;
@@ -53,8 +53,8 @@ fn chosen(w: Wanted) -> [u8; 16]
 
 // The sync point of a new volume: the remote log's latest LSN without watermark, or missing.
 fn sync_at(commits: &[u8], log: LogId) -> Sync
-    requires { commitsOk commits.now ≡ true }
-    ensures { syncSays result ≡ syncAt (latestLsn (commitsIn commits.now) log) }
+    requires { commits_ok commits.now ≡ true }
+    ensures { sync_says result ≡ sync_at (latest_lsn (commits_in commits.now) log) }
 {
     let Place::At(i) = commits::latest(commits, log) else {
         return Sync::Missing;
@@ -68,8 +68,8 @@ fn sync_at(commits: &[u8], log: LogId) -> Sync
 
 // The new volume.
 fn new_volume(commits: &[u8], vid: Wanted, local: Wanted, remote: Wanted) -> Volume
-    requires { commitsOk commits.now ≡ true }
-    ensures { (volumeSays result ≡ newVolume (commitsIn commits.now) (asked vid local remote) (spares vid local remote)) × (volumeForm (volumeSays result) ≡ true) }
+    requires { commits_ok commits.now ≡ true }
+    ensures { (volume_says result ≡ new_volume (commits_in commits.now) (asked vid local remote) (spares vid local remote)) × (volume_form (volume_says result) ≡ true) }
 {
     let id = chosen(vid);
     let here = chosen(local);
@@ -89,7 +89,7 @@ fn new_volume(commits: &[u8], vid: Wanted, local: Wanted, remote: Wanted) -> Vol
 
 // Whether a volume names a log.
 fn names(v: Volume, log: LogId) -> bool
-    ensures { result ≡ (sameId log (volumeSays v).local || sameId log (volumeSays v).remote) }
+    ensures { result ≡ (same_id log (volume_says v).local || same_id log (volume_says v).remote) }
 {
     let local = v.local;
     let remote = v.remote;
@@ -101,8 +101,8 @@ fn names(v: Volume, log: LogId) -> bool
 
 // Whether a stored volume names a log.
 fn any_names(volumes: &[u8], log: LogId) -> bool
-    requires { volumesOk volumes.now ≡ true }
-    ensures { result ≡ any (λ v. sameId log v.local || sameId log v.remote) (volumesIn volumes.now).rows }
+    requires { volumes_ok volumes.now ≡ true }
+    ensures { result ≡ any (λ v. same_id log v.local || same_id log v.remote) (volumes_in volumes.now).rows }
 {
     let n = table::count(volumes);
     let mut i: usize = 0;
@@ -118,8 +118,8 @@ fn any_names(volumes: &[u8], log: LogId) -> bool
 
 // Whether a volume or a commit names a log.
 fn log_named(volumes: &[u8], commits: &[u8], log: LogId) -> bool
-    requires { (volumesOk volumes.now ≡ true) × (commitsOk commits.now ≡ true) }
-    ensures { result ≡ logNamed (volumesIn volumes.now) (commitsIn commits.now) log }
+    requires { (volumes_ok volumes.now ≡ true) × (commits_ok commits.now ≡ true) }
+    ensures { result ≡ log_named (volumes_in volumes.now) (commits_in commits.now) log }
 {
     if any_names(volumes, log) {
         return true;
@@ -132,8 +132,8 @@ fn log_named(volumes: &[u8], commits: &[u8], log: LogId) -> bool
 
 // Whether the vid was asked, or its spare is not one of a stored volume.
 fn vid_free(volumes: &[u8], w: Wanted) -> bool
-    requires { volumesOk volumes.now ≡ true }
-    ensures { result ≡ vidFree (volumesIn volumes.now) (askedSays w) w.spare }
+    requires { volumes_ok volumes.now ≡ true }
+    ensures { result ≡ vid_free (volumes_in volumes.now) (asked_says w) w.spare }
 {
     if w.asked {
         return true;
@@ -144,8 +144,8 @@ fn vid_free(volumes: &[u8], w: Wanted) -> bool
 
 // Whether a log was asked, or its spare is one that no volume or commit names, and not the other log.
 fn log_free(volumes: &[u8], commits: &[u8], w: Wanted, other: LogId) -> bool
-    requires { (volumesOk volumes.now ≡ true) × (commitsOk commits.now ≡ true) }
-    ensures { result ≡ logFree (volumesIn volumes.now) (commitsIn commits.now) (askedSays w) w.spare other }
+    requires { (volumes_ok volumes.now ≡ true) × (commits_ok commits.now ≡ true) }
+    ensures { result ≡ log_free (volumes_in volumes.now) (commits_in commits.now) (asked_says w) w.spare other }
 {
     if w.asked {
         return true;
@@ -159,8 +159,8 @@ fn log_free(volumes: &[u8], commits: &[u8], w: Wanted, other: LogId) -> bool
 
 // Whether all that stands in is free (5).
 fn all_free(volumes: &[u8], commits: &[u8], vid: Wanted, local: Wanted, remote: Wanted) -> bool
-    requires { (volumesOk volumes.now ≡ true) × (commitsOk commits.now ≡ true) }
-    ensures { result ≡ allFree (volumesIn volumes.now) (commitsIn commits.now) (asked vid local remote) (spares vid local remote) }
+    requires { (volumes_ok volumes.now ≡ true) × (commits_ok commits.now ≡ true) }
+    ensures { result ≡ all_free (volumes_in volumes.now) (commits_in commits.now) (asked vid local remote) (spares vid local remote) }
 {
     let here = chosen(local);
     let there = chosen(remote);
@@ -177,8 +177,8 @@ fn all_free(volumes: &[u8], commits: &[u8], vid: Wanted, local: Wanted, remote: 
 
 // What open does where no stored volume was asked: 5, 19, or the new volume.
 fn new_plan(volumes: &[u8], commits: &[u8], vid: Wanted, local: Wanted, remote: Wanted) -> Opening
-    requires { (volumesOk volumes.now ≡ true) × (commitsOk commits.now ≡ true) }
-    ensures { Planned volumes.now (commitsIn commits.now) (asked vid local remote) (spares vid local remote) (openedNew (volumesIn volumes.now) (commitsIn commits.now) (asked vid local remote) (spares vid local remote)) result }
+    requires { (volumes_ok volumes.now ≡ true) × (commits_ok commits.now ≡ true) }
+    ensures { Planned volumes.now (commits_in commits.now) (asked vid local remote) (spares vid local remote) (opened_new (volumes_in volumes.now) (commits_in commits.now) (asked vid local remote) (spares vid local remote)) result }
 {
     if !all_free(volumes, commits, vid, local, remote) {
         return Opening::Refused(5);
@@ -192,7 +192,7 @@ fn new_plan(volumes: &[u8], commits: &[u8], vid: Wanted, local: Wanted, remote: 
 
 // Whether no remote was asked, or it is the volume's.
 fn agrees(remote: Wanted, v: Volume) -> bool
-    ensures { result ≡ agreesOn (askedSays remote) (volumeSays v) }
+    ensures { result ≡ agrees_on (asked_says remote) (volume_says v) }
 {
     if !remote.asked {
         return true;
@@ -204,8 +204,8 @@ fn agrees(remote: Wanted, v: Volume) -> bool
 
 // Where the asked volume stands; in a gap where none was asked.
 fn asked_spot(volumes: &[u8], w: Wanted) -> Spot
-    requires { volumesOk volumes.now ≡ true }
-    ensures { AskedAt volumes.now (askedVolume (volumesIn volumes.now) (askedSays w)) result }
+    requires { volumes_ok volumes.now ≡ true }
+    ensures { AskedAt volumes.now (asked_volume (volumes_in volumes.now) (asked_says w)) result }
 {
     if !w.asked {
         return Spot::Gap(0);
@@ -216,8 +216,8 @@ fn asked_spot(volumes: &[u8], w: Wanted) -> Spot
 
 // What open does: 6 or the stored volume, else 5, 19, or the new volume.
 fn open_plan(volumes: &[u8], commits: &[u8], vid: Wanted, local: Wanted, remote: Wanted) -> Opening
-    requires { (volumesOk volumes.now ≡ true) × (commitsOk commits.now ≡ true) }
-    ensures { Planned volumes.now (commitsIn commits.now) (asked vid local remote) (spares vid local remote) (opened (volumesIn volumes.now) (commitsIn commits.now) (asked vid local remote) (spares vid local remote) (askedVolume (volumesIn volumes.now) (askedSays vid))) result }
+    requires { (volumes_ok volumes.now ≡ true) × (commits_ok commits.now ≡ true) }
+    ensures { Planned volumes.now (commits_in commits.now) (asked vid local remote) (spares vid local remote) (opened (volumes_in volumes.now) (commits_in commits.now) (asked vid local remote) (spares vid local remote) (asked_volume (volumes_in volumes.now) (asked_says vid))) result }
 {
     let Spot::At(i) = asked_spot(volumes, vid) else {
         return new_plan(volumes, commits, vid, local, remote);
@@ -238,9 +238,9 @@ pub fn open(
     remote: Wanted,
     out: &mut [u8],
 ) -> u32
-    ensures value { result ≡ code (lent (volumesOk volumes.old && commitsOk commits.now) (open_in (volumesIn volumes.old) (commitsIn commits.now) (asked vid local remote) (spares vid local remote) out.old)) }
-    ensures volumes_after { volumes.new ≡ after volumeBytes (λ (r : RulesVolume × Table RulesVolume). r.1) volumes.old (lent (volumesOk volumes.old && commitsOk commits.now) (open_in (volumesIn volumes.old) (commitsIn commits.now) (asked vid local remote) (spares vid local remote) out.old)) }
-    ensures out_after { out.new ≡ outAfter volumeBytes (λ (r : RulesVolume × Table RulesVolume). r.0) out.old (lent (volumesOk volumes.old && commitsOk commits.now) (open_in (volumesIn volumes.old) (commitsIn commits.now) (asked vid local remote) (spares vid local remote) out.old)) }
+    ensures value { result ≡ code (lent (volumes_ok volumes.old && commits_ok commits.now) (open_in (volumes_in volumes.old) (commits_in commits.now) (asked vid local remote) (spares vid local remote) out.old)) }
+    ensures volumes_after { volumes.new ≡ after volume_bytes (λ (r : RulesVolume × Table RulesVolume). r.1) volumes.old (lent (volumes_ok volumes.old && commits_ok commits.now) (open_in (volumes_in volumes.old) (commits_in commits.now) (asked vid local remote) (spares vid local remote) out.old)) }
+    ensures out_after { out.new ≡ out_after volume_bytes (λ (r : RulesVolume × Table RulesVolume). r.0) out.old (lent (volumes_ok volumes.old && commits_ok commits.now) (open_in (volumes_in volumes.old) (commits_in commits.now) (asked vid local remote) (spares vid local remote) out.old)) }
 {
     if !volumes_formed(volumes) {
         return 20;

@@ -1,7 +1,7 @@
 -- What each answer of the calls says: document 01's number, or the value under 0.
 use Rattle.std.specs.Prelude.{ℕ, Bool, true, false}
 use Rattle.std.proofs.Math.Option.{Option, none, some}
-use Rattle.std.specs.Answers.{Answer, refused, done}
+use Rattle.basics.specs.Answers.{Answer, refused, done}
 use Rattle.pageset.specs.declared.SetAnswer.{SetAnswer}
 use Rattle.pagecalls.specs.declared.InsertAnswer.{InsertAnswer}
 use Rattle.pagecalls.specs.declared.CountAnswer.{CountAnswer}
@@ -16,18 +16,18 @@ abbrev pub inserted : InsertAnswer → SetAnswer
 inserted r = record { code = r.code; set = r.set }
 
 -- a number of pages
-abbrev pub countSays : CountAnswer → Answer ℕ
-countSays (CountAnswer.Refused n) = refused n
-countSays (CountAnswer.Count n) = done n.0
+abbrev pub count_says : CountAnswer → Answer ℕ
+count_says (CountAnswer.Refused n) = refused n
+count_says (CountAnswer.Count n) = done n.0
 
 -- a page, or nothing
-abbrev pub pageSays : PageAnswer → Answer (Option ℕ)
-pageSays (PageAnswer.Refused n) = refused n
-pageSays (PageAnswer.At p) = done (some p.0)
-pageSays PageAnswer.Nothing = done none
+abbrev pub page_says : PageAnswer → Answer (Option ℕ)
+page_says (PageAnswer.Refused n) = refused n
+page_says (PageAnswer.At p) = done (some p.0)
+page_says PageAnswer.Nothing = done none
 
 -- yes or no
-abbrev pub yesSays : YesAnswer → Answer Bool
-yesSays (YesAnswer.Refused n) = refused n
-yesSays YesAnswer.Yes = done true
-yesSays YesAnswer.No = done false
+abbrev pub yes_says : YesAnswer → Answer Bool
+yes_says (YesAnswer.Refused n) = refused n
+yes_says YesAnswer.Yes = done true
+yes_says YesAnswer.No = done false

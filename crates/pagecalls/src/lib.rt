@@ -1,14 +1,14 @@
 // The calls on page sets. Each answers on every input, sets that are not in normal form among them: the numbers 1, 2 and 3 of all arguments
 // in turn, then 22.
 ghost use Rattle.std.specs.Prelude.{◌≡◌, false};
-ghost use Rattle.std.specs.Answers.{done};
-ghost use Rattle.std.specs.Says.{maybePageSays};
-ghost use Rattle.pageset.specs.Rules.{rangeFault, rangeRule, insertRule, newRule, unionRule, truncateRule, cutRule, leftRule, removeRule, sizeRule, firstRule, lastRule, containsRule, anyRule, allRule};
-ghost use Rattle.pageset.specs.Says.{Gives, GivesOr22, common, left, refusedSet};
-ghost use Rattle.pagecalls.specs.Says.{inserted, countSays, pageSays, yesSays};
+ghost use Rattle.basics.specs.Answers.{done};
+ghost use Rattle.basics.specs.Says.{maybe_page_says};
+ghost use Rattle.pageset.specs.Rules.{range_fault, range_rule, insert_rule, new_rule, union_rule, truncate_rule, cut_rule, left_rule, remove_rule, size_rule, first_rule, last_rule, contains_rule, any_rule, all_rule};
+ghost use Rattle.pageset.specs.Says.{Gives, GivesOr22, common, left, refused_set};
+ghost use Rattle.pagecalls.specs.Says.{inserted, count_says, page_says, yes_says};
 
-use core::page_count::{MaybePage, PageCount};
-use core::pageidx::PageIdx;
+use basics::page_count::{MaybePage, PageCount};
+use basics::pageidx::PageIdx;
 use pageset::{CutAnswer, PageSet, SetAnswer, form, sets};
 
 // The set with a page inserted, and whether the page was new; or the number of a refusal, no, and the empty set.
@@ -44,14 +44,14 @@ pub enum YesAnswer {
 
 // A test's answer.
 fn yes_or_no(b: bool) -> YesAnswer
-    ensures { yesSays result ≡ done b }
+    ensures { yes_says result ≡ done b }
 {
     if b { YesAnswer::Yes } else { YesAnswer::No }
 }
 
 // A page's answer.
 fn page_or_nothing(p: MaybePage) -> PageAnswer
-    ensures { pageSays result ≡ done (maybePageSays p) }
+    ensures { page_says result ≡ done (maybe_page_says p) }
 {
     match p {
         MaybePage::At(p) => PageAnswer::At(p),
@@ -61,7 +61,7 @@ fn page_or_nothing(p: MaybePage) -> PageAnswer
 
 // The number that a range of pages earns: 1 for page 0, 2 for a start above the end, else 0.
 fn range_fault(a: PageIdx, b: PageIdx) -> u32
-    ensures { result ≡ rangeFault a.0 b.0 }
+    ensures { result ≡ range_fault a.0 b.0 }
 {
     if a.0 == 0 {
         return 1;
@@ -77,7 +77,7 @@ fn range_fault(a: PageIdx, b: PageIdx) -> u32
 
 // The pages from a to b: 1, 2, 22.
 pub fn from_range(a: PageIdx, b: PageIdx) -> SetAnswer
-    ensures { GivesOr22 result (rangeRule a.0 b.0) }
+    ensures { GivesOr22 result (range_rule a.0 b.0) }
 {
     let fault = range_fault(a, b);
     if fault != 0 {
@@ -88,8 +88,8 @@ pub fn from_range(a: PageIdx, b: PageIdx) -> SetAnswer
 
 // The set with page p, and whether p was new: 1, 3, 22.
 pub fn insert(s: PageSet, p: PageIdx) -> InsertAnswer
-    ensures gives_or22 { GivesOr22 (inserted result) (insertRule s p.0) }
-    ensures result_after { result.new ≡ newRule s p.0 result.code }
+    ensures gives_or22 { GivesOr22 (inserted result) (insert_rule s p.0) }
+    ensures result_after { result.new ≡ new_rule s p.0 result.code }
 {
     if p.0 == 0 {
         return not_inserted(1);
@@ -108,7 +108,7 @@ pub fn insert(s: PageSet, p: PageIdx) -> InsertAnswer
 
 // An insertion's refusal; its values are no and the empty set.
 fn not_inserted(code: u32) -> InsertAnswer
-    ensures { (inserted result ≡ refusedSet code) × (result.new ≡ false) }
+    ensures { (inserted result ≡ refused_set code) × (result.new ≡ false) }
 {
     let set = sets::empty();
     InsertAnswer {
@@ -120,7 +120,7 @@ fn not_inserted(code: u32) -> InsertAnswer
 
 // The pages of either set: 3, 22.
 pub fn union(a: PageSet, b: PageSet) -> SetAnswer
-    ensures { GivesOr22 result (unionRule a b) }
+    ensures { GivesOr22 result (union_rule a b) }
 {
     if !form::is_normal(a) {
         return sets::refusal(3);
@@ -133,7 +133,7 @@ pub fn union(a: PageSet, b: PageSet) -> SetAnswer
 
 // The number of pages of a set: 3.
 pub fn cardinality(s: PageSet) -> CountAnswer
-    ensures { countSays result ≡ sizeRule s }
+    ensures { count_says result ≡ size_rule s }
 {
     if !form::is_normal(s) {
         return CountAnswer::Refused(3);
@@ -143,7 +143,7 @@ pub fn cardinality(s: PageSet) -> CountAnswer
 
 // The first page of a set, or nothing: 3.
 pub fn first(s: PageSet) -> PageAnswer
-    ensures { pageSays result ≡ firstRule s }
+    ensures { page_says result ≡ first_rule s }
 {
     if !form::is_normal(s) {
         return PageAnswer::Refused(3);
@@ -153,7 +153,7 @@ pub fn first(s: PageSet) -> PageAnswer
 
 // The last page of a set, or nothing: 3.
 pub fn last(s: PageSet) -> PageAnswer
-    ensures { pageSays result ≡ lastRule s }
+    ensures { page_says result ≡ last_rule s }
 {
     if !form::is_normal(s) {
         return PageAnswer::Refused(3);
@@ -163,7 +163,7 @@ pub fn last(s: PageSet) -> PageAnswer
 
 // Whether page p is in the set: 1, 3.
 pub fn contains(s: PageSet, p: PageIdx) -> YesAnswer
-    ensures { yesSays result ≡ containsRule s p.0 }
+    ensures { yes_says result ≡ contains_rule s p.0 }
 {
     if p.0 == 0 {
         return YesAnswer::Refused(1);
@@ -176,7 +176,7 @@ pub fn contains(s: PageSet, p: PageIdx) -> YesAnswer
 
 // Whether some page from a to b is in the set: 1, 2, 3.
 pub fn contains_any(s: PageSet, a: PageIdx, b: PageIdx) -> YesAnswer
-    ensures { yesSays result ≡ anyRule s a.0 b.0 }
+    ensures { yes_says result ≡ any_rule s a.0 b.0 }
 {
     let fault = range_fault(a, b);
     if fault != 0 {
@@ -190,7 +190,7 @@ pub fn contains_any(s: PageSet, a: PageIdx, b: PageIdx) -> YesAnswer
 
 // Whether each page from a to b is in the set: 1, 2, 3.
 pub fn contains_all(s: PageSet, a: PageIdx, b: PageIdx) -> YesAnswer
-    ensures { yesSays result ≡ allRule s a.0 b.0 }
+    ensures { yes_says result ≡ all_rule s a.0 b.0 }
 {
     let fault = range_fault(a, b);
     if fault != 0 {
@@ -204,7 +204,7 @@ pub fn contains_all(s: PageSet, a: PageIdx, b: PageIdx) -> YesAnswer
 
 // The pages of a set that are at most n: 3.
 pub fn truncate(s: PageSet, n: PageCount) -> SetAnswer
-    ensures { Gives result (truncateRule s n.0) }
+    ensures { Gives result (truncate_rule s n.0) }
 {
     if !form::is_normal(s) {
         return sets::refusal(3);
@@ -215,7 +215,7 @@ pub fn truncate(s: PageSet, n: PageCount) -> SetAnswer
 
 // The pages of a set that do not lie from a to b: 1, 2, 3.
 pub fn remove_page_range(s: PageSet, a: PageIdx, b: PageIdx) -> SetAnswer
-    ensures { Gives result (removeRule s a.0 b.0) }
+    ensures { Gives result (remove_rule s a.0 b.0) }
 {
     let fault = range_fault(a, b);
     if fault != 0 {
@@ -230,7 +230,7 @@ pub fn remove_page_range(s: PageSet, a: PageIdx, b: PageIdx) -> SetAnswer
 
 // The common pages of two sets, and the left set without them: 3.
 pub fn cut(a: PageSet, b: PageSet) -> CutAnswer
-    ensures { Gives (common result) (cutRule a b) × Gives (left result) (leftRule a b) }
+    ensures { Gives (common result) (cut_rule a b) × Gives (left result) (left_rule a b) }
 {
     if !form::is_normal(a) {
         return no_cut(3);
@@ -243,7 +243,7 @@ pub fn cut(a: PageSet, b: PageSet) -> CutAnswer
 
 // A cut's refusal; its values are empty sets.
 fn no_cut(code: u32) -> CutAnswer
-    ensures { (common result ≡ refusedSet code) × (left result ≡ refusedSet code) }
+    ensures { (common result ≡ refused_set code) × (left result ≡ refused_set code) }
 {
     let common = sets::empty();
     let left = sets::empty();

@@ -26,109 +26,109 @@ half_lt : (a k : ℕ) → a < 2 ^ suc k → a / 2 < 2 ^ k
 half_lt a k h = omega (arith, pow-suc 2 k)
 
 -- the lowest bit, and the bits above it
-pub bit-zero : (m : ℕ) → bit m 0 ≡ eqb (m % 2) 1
+pub bit_zero : (m : ℕ) → bit m 0 ≡ eqb (m % 2) 1
 unfolding bit
-bit-zero m = ap (λ (x : ℕ). eqb (x % 2) 1) (div-one m)
+bit_zero m = ap (λ (x : ℕ). eqb (x % 2) 1) (div-one m)
 
-pub bit-suc : (m k : ℕ) → bit m (suc k) ≡ bit (m / 2) k
+pub bit_suc : (m k : ℕ) → bit m (suc k) ≡ bit (m / 2) k
 unfolding bit
-bit-suc m k = rw half_pow
+bit_suc m k = rw half_pow
 
 -- ---- the operations
 
-pub and-odd : (a b : ℕ) → bit_and a b % 2 ≡ min (a % 2) (b % 2)
-and-odd a b = omega (arith, and_step a b)
+pub and_odd : (a b : ℕ) → bit_and a b % 2 ≡ min (a % 2) (b % 2)
+and_odd a b = omega (arith, and_step a b)
 
-or-odd : (a b : ℕ) → bit_or a b % 2 ≡ max (a % 2) (b % 2)
-or-odd a b = omega (arith, or_step a b)
+or_odd : (a b : ℕ) → bit_or a b % 2 ≡ max (a % 2) (b % 2)
+or_odd a b = omega (arith, or_step a b)
 
-eqb-min : (x y : ℕ) → (x ≡ 0) ⊎ (x ≡ 1) → (y ≡ 0) ⊎ (y ≡ 1) → eqb (min x y) 1 ≡ (eqb x 1 && eqb y 1)
-eqb-min x y (inl p) (inl q) = rw (p, q)
-eqb-min x y (inl p) (inr q) = rw (p, q)
-eqb-min x y (inr p) (inl q) = rw (p, q)
-eqb-min x y (inr p) (inr q) = rw (p, q)
+eqb_min : (x y : ℕ) → (x ≡ 0) ⊎ (x ≡ 1) → (y ≡ 0) ⊎ (y ≡ 1) → eqb (min x y) 1 ≡ (eqb x 1 && eqb y 1)
+eqb_min x y (inl p) (inl q) = rw (p, q)
+eqb_min x y (inl p) (inr q) = rw (p, q)
+eqb_min x y (inr p) (inl q) = rw (p, q)
+eqb_min x y (inr p) (inr q) = rw (p, q)
 
-eqb-max : (x y : ℕ) → (x ≡ 0) ⊎ (x ≡ 1) → (y ≡ 0) ⊎ (y ≡ 1) → eqb (max x y) 1 ≡ (eqb x 1 || eqb y 1)
-eqb-max x y (inl p) (inl q) = rw (p, q)
-eqb-max x y (inl p) (inr q) = rw (p, q)
-eqb-max x y (inr p) (inl q) = rw (p, q)
-eqb-max x y (inr p) (inr q) = rw (p, q)
+eqb_max : (x y : ℕ) → (x ≡ 0) ⊎ (x ≡ 1) → (y ≡ 0) ⊎ (y ≡ 1) → eqb (max x y) 1 ≡ (eqb x 1 || eqb y 1)
+eqb_max x y (inl p) (inl q) = rw (p, q)
+eqb_max x y (inl p) (inr q) = rw (p, q)
+eqb_max x y (inr p) (inl q) = rw (p, q)
+eqb_max x y (inr p) (inr q) = rw (p, q)
 
-pub bit-and : (a b k : ℕ) → bit (bit_and a b) k ≡ (bit a k && bit b k)
+pub bit_and_lem : (a b k : ℕ) → bit (bit_and a b) k ≡ (bit a k && bit b k)
 unfolding bit
-bit-and a b k = ap (λ (x : ℕ). eqb (x % 2) 1) (and_shr a b k) ∙ ap (λ (x : ℕ). eqb x 1) (and-odd (a / 2 ^ k) (b / 2 ^ k)) ∙ eqb-min _ _ (digit (a / 2 ^ k)) (digit (b / 2 ^ k))
+bit_and_lem a b k = ap (λ (x : ℕ). eqb (x % 2) 1) (and_shr a b k) ∙ ap (λ (x : ℕ). eqb x 1) (and_odd (a / 2 ^ k) (b / 2 ^ k)) ∙ eqb_min _ _ (digit (a / 2 ^ k)) (digit (b / 2 ^ k))
 
-pub bit-or : (a b k : ℕ) → bit (bit_or a b) k ≡ (bit a k || bit b k)
+pub bit_or_lem : (a b k : ℕ) → bit (bit_or a b) k ≡ (bit a k || bit b k)
 unfolding bit
-bit-or a b k = ap (λ (x : ℕ). eqb (x % 2) 1) (or_shr a b k) ∙ ap (λ (x : ℕ). eqb x 1) (or-odd (a / 2 ^ k) (b / 2 ^ k)) ∙ eqb-max _ _ (digit (a / 2 ^ k)) (digit (b / 2 ^ k))
+bit_or_lem a b k = ap (λ (x : ℕ). eqb (x % 2) 1) (or_shr a b k) ∙ ap (λ (x : ℕ). eqb x 1) (or_odd (a / 2 ^ k) (b / 2 ^ k)) ∙ eqb_max _ _ (digit (a / 2 ^ k)) (digit (b / 2 ^ k))
 
-eqb-flip : (x y : ℕ) → (y ≡ 0) ⊎ (y ≡ 1) → x ≡ 1 - y → eqb x 1 ≡ not (eqb y 1)
-eqb-flip x y (inl p) e = rw (e, p)
-eqb-flip x y (inr p) e = rw (e, p)
+eqb_flip : (x y : ℕ) → (y ≡ 0) ⊎ (y ≡ 1) → x ≡ 1 - y → eqb x 1 ≡ not (eqb y 1)
+eqb_flip x y (inl p) e = rw (e, p)
+eqb_flip x y (inr p) e = rw (e, p)
 
 -- `!a`, of w bits
 pub bit_not : (w k a : ℕ) → k < w → a < 2 ^ w → bit ((2 ^ w - 1) - a) k ≡ not (bit a k)
 bit_not zero k a h l = absurd (omega arith)
 bit_not (suc w) zero a h l =
     let e : ((2 ^ suc w - 1) - a) % 2 ≡ 1 - a % 2 = omega (arith, pow-suc 2 w) in
-    bit-zero _ ∙ eqb-flip _ _ (digit a) e ∙ ap not (sym (bit-zero a))
+    bit_zero _ ∙ eqb_flip _ _ (digit a) e ∙ ap not (sym (bit_zero a))
 bit_not (suc w) (suc k) a h l =
     let e : ((2 ^ suc w - 1) - a) / 2 ≡ (2 ^ w - 1) - a / 2 = omega (arith, pow-suc 2 w) in
-    bit-suc _ k ∙ ap (λ (x : ℕ). bit x k) e ∙ bit_not w k (a / 2) (omega arith) (half_lt a w l) ∙ ap not (sym (bit-suc a k))
+    bit_suc _ k ∙ ap (λ (x : ℕ). bit x k) e ∙ bit_not w k (a / 2) (omega arith) (half_lt a w l) ∙ ap not (sym (bit_suc a k))
 
 -- ---- where no bit is set
 
-pub bit-none : (k : ℕ) → bit 0 k ≡ false
+pub bit_none : (k : ℕ) → bit 0 k ≡ false
 unfolding bit
-bit-none k = ap (λ (x : ℕ). eqb (x % 2) 1) (zero-div (2 ^ k))
+bit_none k = ap (λ (x : ℕ). eqb (x % 2) 1) (zero-div (2 ^ k))
 
-bit-above : (m k : ℕ) → m < 2 ^ k → bit m k ≡ false
+bit_above : (m k : ℕ) → m < 2 ^ k → bit m k ≡ false
 unfolding bit
-bit-above m k h = ap (λ (x : ℕ). eqb (x % 2) 1) (div-eq_of_lt h)
+bit_above m k h = ap (λ (x : ℕ). eqb (x % 2) 1) (div-eq_of_lt h)
 
 bit_past : (m w k : ℕ) → m < 2 ^ w → w ≤ k → bit m k ≡ false
-bit_past m w k h l = bit-above m k (lt_of_lt_of_le h (pow_mono l))
+bit_past m w k h l = bit_above m k (lt_of_lt_of_le h (pow_mono l))
 
 -- ---- the bits below k
 
-pub bit-mod : (m k j : ℕ) → bit (m % 2 ^ k) j ≡ (bit m j && ltb j k)
-bit-mod m zero j = ap (λ (x : ℕ). bit x j) (mod-one m) ∙ bit-none j ∙ sym (ap (λ (b : Bool). bit m j && b) (le-ltb j 0 (omega arith)) ∙ and-false (bit m j))
-bit-mod m (suc k) zero =
+pub bit_mod : (m k j : ℕ) → bit (m % 2 ^ k) j ≡ (bit m j && ltb j k)
+bit_mod m zero j = ap (λ (x : ℕ). bit x j) (mod-one m) ∙ bit_none j ∙ sym (ap (λ (b : Bool). bit m j && b) (le-ltb j 0 (omega arith)) ∙ and-false (bit m j))
+bit_mod m (suc k) zero =
     let e : m % 2 ^ suc k % 2 ≡ m % 2 = ap (λ (x : ℕ). m % 2 ^ x % 2) (sym (add-one k)) ∙ mod-mod-pow m k 1 in
-    bit-zero _ ∙ ap (λ (x : ℕ). eqb x 1) e ∙ sym (bit-zero m) ∙ sym (ap (λ (b : Bool). bit m 0 && b) (lt-ltb 0 (suc k) (omega arith)) ∙ and-true (bit m 0))
-bit-mod m (suc k) (suc j) =
+    bit_zero _ ∙ ap (λ (x : ℕ). eqb x 1) e ∙ sym (bit_zero m) ∙ sym (ap (λ (b : Bool). bit m 0 && b) (lt-ltb 0 (suc k) (omega arith)) ∙ and-true (bit m 0))
+bit_mod m (suc k) (suc j) =
     let e : m % 2 ^ suc k / 2 ≡ m / 2 % 2 ^ k = ap (λ (x : ℕ). m % 2 ^ x / 2) (sym (add-one k)) ∙ field m k 1 in
-    bit-suc _ j ∙ ap (λ (x : ℕ). bit x j) e ∙ bit-mod (m / 2) k j ∙ ap₂ ◌&&◌ (sym (bit-suc m j)) (sym (leb-suc-suc (suc j) k))
+    bit_suc _ j ∙ ap (λ (x : ℕ). bit x j) e ∙ bit_mod (m / 2) k j ∙ ap₂ ◌&&◌ (sym (bit_suc m j)) (sym (leb-suc-suc (suc j) k))
 
 -- the number of k set bits
-pub bit-ones : (k j : ℕ) → bit (2 ^ k - 1) j ≡ ltb j k
-bit-ones zero j = bit-none j ∙ sym (le-ltb j 0 (omega arith))
-bit-ones (suc k) zero =
+pub bit_ones : (k j : ℕ) → bit (2 ^ k - 1) j ≡ ltb j k
+bit_ones zero j = bit_none j ∙ sym (le-ltb j 0 (omega arith))
+bit_ones (suc k) zero =
     let e : (2 ^ suc k - 1) % 2 ≡ 1 = omega (arith, pow-suc 2 k, pow_pos k) in
-    bit-zero _ ∙ ap (λ (x : ℕ). eqb x 1) e ∙ sym (lt-ltb 0 (suc k) (omega arith))
-bit-ones (suc k) (suc j) =
+    bit_zero _ ∙ ap (λ (x : ℕ). eqb x 1) e ∙ sym (lt-ltb 0 (suc k) (omega arith))
+bit_ones (suc k) (suc j) =
     let e : (2 ^ suc k - 1) / 2 ≡ 2 ^ k - 1 = omega (arith, pow-suc 2 k, pow_pos k) in
-    bit-suc _ j ∙ ap (λ (x : ℕ). bit x j) e ∙ bit-ones k j ∙ sym (leb-suc-suc (suc j) k)
+    bit_suc _ j ∙ ap (λ (x : ℕ). bit x j) e ∙ bit_ones k j ∙ sym (leb-suc-suc (suc j) k)
 
 -- ---- two numbers are equal by their bits
 
-eqb-digit : (x y : ℕ) → (x ≡ 0) ⊎ (x ≡ 1) → (y ≡ 0) ⊎ (y ≡ 1) → eqb x 1 ≡ eqb y 1 → x ≡ y
-eqb-digit x y (inl p) (inl q) e = cc
-eqb-digit x y (inl p) (inr q) e = absurd (false-true (rw (p, q) at e))
+eqb_digit : (x y : ℕ) → (x ≡ 0) ⊎ (x ≡ 1) → (y ≡ 0) ⊎ (y ≡ 1) → eqb x 1 ≡ eqb y 1 → x ≡ y
+eqb_digit x y (inl p) (inl q) e = cc
+eqb_digit x y (inl p) (inr q) e = absurd (false_true (rw (p, q) at e))
   where
-    false-true : false ≡ true → ⊥
-    false-true h = let z : ◌≡◌ {A = ℕ} 0 1 = cc in omega arith
-eqb-digit x y (inr p) (inl q) e = absurd (false-true (rw (p, q) at e))
+    false_true : false ≡ true → ⊥
+    false_true h = let z : ◌≡◌ {A = ℕ} 0 1 = cc in omega arith
+eqb_digit x y (inr p) (inl q) e = absurd (false_true (rw (p, q) at e))
   where
-    false-true : true ≡ false → ⊥
-    false-true h = let z : ◌≡◌ {A = ℕ} 0 1 = cc in omega arith
-eqb-digit x y (inr p) (inr q) e = cc
+    false_true : true ≡ false → ⊥
+    false_true h = let z : ◌≡◌ {A = ℕ} 0 1 = cc in omega arith
+eqb_digit x y (inr p) (inr q) e = cc
 
-pub bit-ext : (w a b : ℕ) → a < 2 ^ w → b < 2 ^ w → ((k : ℕ) → k < w → bit a k ≡ bit b k) → a ≡ b
-bit-ext zero a b p q h = omega arith
-bit-ext (suc w) a b p q h =
-    let top : a / 2 ≡ b / 2 = bit-ext w (a / 2) (b / 2) (half_lt a w p) (half_lt b w q) (λ k l. sym (bit-suc a k) ∙ h (suc k) (omega arith) ∙ bit-suc b k) in
-    let low : a % 2 ≡ b % 2 = eqb-digit _ _ (digit a) (digit b) (sym (bit-zero a) ∙ h 0 (omega arith) ∙ bit-zero b) in
+pub bit_ext : (w a b : ℕ) → a < 2 ^ w → b < 2 ^ w → ((k : ℕ) → k < w → bit a k ≡ bit b k) → a ≡ b
+bit_ext zero a b p q h = omega arith
+bit_ext (suc w) a b p q h =
+    let top : a / 2 ≡ b / 2 = bit_ext w (a / 2) (b / 2) (half_lt a w p) (half_lt b w q) (λ k l. sym (bit_suc a k) ∙ h (suc k) (omega arith) ∙ bit_suc b k) in
+    let low : a % 2 ≡ b % 2 = eqb_digit _ _ (digit a) (digit b) (sym (bit_zero a) ∙ h 0 (omega arith) ∙ bit_zero b) in
     omega arith
 
 -- ---- the lowest and the highest set bit
@@ -138,29 +138,29 @@ pub record Lowest (w m t : ℕ) : Type 0 where
   pub set : bit m t ≡ true
   pub clear : (j : ℕ) → j < t → bit m j ≡ false
 
-pub trailing-lowest : (w m : ℕ) → 0 < m → m < 2 ^ w → Lowest w m (count_trailing_zeros w m)
+pub trailing_lowest : (w m : ℕ) → 0 < m → m < 2 ^ w → Lowest w m (count_trailing_zeros w m)
 unfolding count_trailing_zeros
-trailing-lowest zero m p h = absurd (omega arith)
-trailing-lowest (suc w) m p h = go (digit m) (λ q. trailing-lowest w (m / 2) q (half_lt m w h))
+trailing_lowest zero m p h = absurd (omega arith)
+trailing_lowest (suc w) m p h = go (digit m) (λ q. trailing_lowest w (m / 2) q (half_lt m w h))
   where
     shift : (t : ℕ) → m % 2 ≡ 0 → Lowest w (m / 2) t → (j : ℕ) → j < suc t → bit m j ≡ false
-    shift t e r zero l = bit-zero m ∙ ap (λ (x : ℕ). eqb x 1) e
-    shift t e r (suc j) l = bit-suc m j ∙ r.clear j (omega arith)
+    shift t e r zero l = bit_zero m ∙ ap (λ (x : ℕ). eqb x 1) e
+    shift t e r (suc j) l = bit_suc m j ∙ r.clear j (omega arith)
 
     go : (m % 2 ≡ 0) ⊎ (m % 2 ≡ 1) → (0 < m / 2 → Lowest w (m / 2) (count_trailing_zeros w (m / 2))) → Lowest (suc w) m (under (m % 2) (count_trailing_zeros w (m / 2)))
     go (inl e) ih =
         let r = ih (omega arith) in
-        rw e (record { within = omega (arith, r.within); set = bit-suc m _ ∙ r.set; clear = shift _ e r })
+        rw e (record { within = omega (arith, r.within); set = bit_suc m _ ∙ r.set; clear = shift _ e r })
     go (inr e) ih =
-        rw e (record { within = omega arith; set = bit-zero m ∙ ap (λ (x : ℕ). eqb x 1) e; clear = λ j l. absurd (omega arith) })
+        rw e (record { within = omega arith; set = bit_zero m ∙ ap (λ (x : ℕ). eqb x 1) e; clear = λ j l. absurd (omega arith) })
 
 pub record Highest (m t : ℕ) : Type 0 where
   pub set : bit m t ≡ true
   pub clear : (j : ℕ) → t < j → bit m j ≡ false
 
-pub leading-highest : (w m : ℕ) → 0 < m → m < 2 ^ w → (t : ℕ) × (count_leading_zeros w m + t + 1 ≡ w) × Highest m t
+pub leading_highest : (w m : ℕ) → 0 < m → m < 2 ^ w → (t : ℕ) × (count_leading_zeros w m + t + 1 ≡ w) × Highest m t
 unfolding bit
-leading-highest w m p h =
+leading_highest w m p h =
     let r = leading_top w m p h in
     let low : m - 2 ^ r.0 < 2 ^ r.0 = omega (arith, r.2, r.3, pow-suc 2 r.0) in
     let whole : m ≡ 1 * 2 ^ r.0 + (m - 2 ^ r.0) = omega (arith, r.2) in
@@ -174,6 +174,6 @@ pub shl_one : (w k : ℕ) → k < w → 1 * 2 ^ k % 2 ^ w ≡ 2 ^ k
 shl_one w k h = ap (λ (x : ℕ). x % 2 ^ w) (one-mul (2 ^ k)) ∙ mod-eq_of_lt (pow-lt h)
 
 -- `m >> b & 1 == 1`
-pub shifted-bit : (m b : ℕ) → eqb (bit_and (m / 2 ^ b) 1) 1 ≡ bit m b
+pub shifted_bit : (m b : ℕ) → eqb (bit_and (m / 2 ^ b) 1) 1 ≡ bit m b
 unfolding bit
-shifted-bit m b = ap (λ (x : ℕ). eqb x 1) (and_mask (m / 2 ^ b) 1)
+shifted_bit m b = ap (λ (x : ℕ). eqb x 1) (and_mask (m / 2 ^ b) 1)

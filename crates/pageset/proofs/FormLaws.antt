@@ -3,18 +3,18 @@ use Rattle.std.proofs.Common.{◌≡◌, ℕ, zero, suc, ◌+◌, ◌-◌, ◌^�
 use borrow.Author.Tests.{lt-leb, not-true}
 use Rattle.pageset.specs.declared.Window.{Window}
 use Rattle.pageset.specs.declared.PageSet.{PageSet}
-use Rattle.pageset.specs.Sets.{bit, maskAt, holds, rising, windowForm, windowForms, normalForm, shown, member, zeroWindow, blank, normal}
-use Rattle.pageset.specs.Says.{emptySet}
+use Rattle.pageset.specs.Sets.{bit, mask_at, holds, rising, window_form, window_forms, normal_form, shown, member, zero_window, blank, normal}
+use Rattle.pageset.specs.Says.{empty_set}
 
 -- ---- tests
 
-pub and-fst : (a b : Bool) → (a && b) ≡ true → a ≡ true
-and-fst true b e = refl
-and-fst false b e = e
+pub and_fst : (a b : Bool) → (a && b) ≡ true → a ≡ true
+and_fst true b e = refl
+and_fst false b e = e
 
-pub and-snd : (a b : Bool) → (a && b) ≡ true → b ≡ true
-and-snd true b e = e
-and-snd false b e = absurd (let z : ◌≡◌ {A = ℕ} 0 1 = cc in omega arith)
+pub and_snd : (a b : Bool) → (a && b) ≡ true → b ≡ true
+and_snd true b e = e
+and_snd false b e = absurd (let z : ◌≡◌ {A = ℕ} 0 1 = cc in omega arith)
 
 pub and_both : (a b : Bool) → a ≡ true → b ≡ true → (a && b) ≡ true
 and_both a b p q = rw (p, q)
@@ -39,50 +39,50 @@ unfoldable pub Rises : ℕ → List Window → Type 0
 Rises lo [] = Unit {0}
 Rises lo (w ∷ ws) = (lo ≤ w.index) × (w.index < 67108864) × (0 < w.mask) × (w.mask < 2 ^ 64) × Rises (w.index + 1) ws
 
-pub rises-fact : (lo : ℕ) (ws : List Window) → rising lo ws ≡ true → windowForms ws ≡ true → Rises lo ws
-unfolding Rises rising windowForms
-rises-fact lo [] r f = tt
-rises-fact lo (w ∷ ws) r f =
-    let g = and-fst (windowForm w) (windowForms ws) f in
-    let h = and-fst (ltb 0 w.mask && ltb w.mask (2 ^ 64)) (ltb w.index (2 ^ 26)) g in (
-      leb-true lo w.index (and-fst (leb lo w.index) (rising (w.index + 1) ws) r),
-      ltb-true w.index (2 ^ 26) (and-snd (ltb 0 w.mask && ltb w.mask (2 ^ 64)) (ltb w.index (2 ^ 26)) g),
-      ltb-true 0 w.mask (and-fst (ltb 0 w.mask) (ltb w.mask (2 ^ 64)) h),
-      ltb-true w.mask (2 ^ 64) (and-snd (ltb 0 w.mask) (ltb w.mask (2 ^ 64)) h),
-      rises-fact (w.index + 1) ws (and-snd (leb lo w.index) (rising (w.index + 1) ws) r) (and-snd (windowForm w) (windowForms ws) f),
+pub rises_fact : (lo : ℕ) (ws : List Window) → rising lo ws ≡ true → window_forms ws ≡ true → Rises lo ws
+unfolding Rises rising window_forms
+rises_fact lo [] r f = tt
+rises_fact lo (w ∷ ws) r f =
+    let g = and_fst (window_form w) (window_forms ws) f in
+    let h = and_fst (ltb 0 w.mask && ltb w.mask (2 ^ 64)) (ltb w.index (2 ^ 26)) g in (
+      leb-true lo w.index (and_fst (leb lo w.index) (rising (w.index + 1) ws) r),
+      ltb-true w.index (2 ^ 26) (and_snd (ltb 0 w.mask && ltb w.mask (2 ^ 64)) (ltb w.index (2 ^ 26)) g),
+      ltb-true 0 w.mask (and_fst (ltb 0 w.mask) (ltb w.mask (2 ^ 64)) h),
+      ltb-true w.mask (2 ^ 64) (and_snd (ltb 0 w.mask) (ltb w.mask (2 ^ 64)) h),
+      rises_fact (w.index + 1) ws (and_snd (leb lo w.index) (rising (w.index + 1) ws) r) (and_snd (window_form w) (window_forms ws) f),
     )
 
-pub rising-test : (lo : ℕ) (ws : List Window) → Rises lo ws → rising lo ws ≡ true
+pub rising_test : (lo : ℕ) (ws : List Window) → Rises lo ws → rising lo ws ≡ true
 unfolding Rises rising
-rising-test lo [] r = refl
-rising-test lo (w ∷ ws) r = and_both _ _ (le-leb lo w.index r.0) (rising-test (w.index + 1) ws r.4)
+rising_test lo [] r = refl
+rising_test lo (w ∷ ws) r = and_both _ _ (le-leb lo w.index r.0) (rising_test (w.index + 1) ws r.4)
 
-pub form-test : (w : Window) → 0 < w.mask → w.mask < 2 ^ 64 → w.index < 67108864 → windowForm w ≡ true
-form-test w a b c =
+pub form_test : (w : Window) → 0 < w.mask → w.mask < 2 ^ 64 → w.index < 67108864 → window_form w ≡ true
+form_test w a b c =
     and_both (ltb 0 w.mask && ltb w.mask (2 ^ 64)) (ltb w.index (2 ^ 26))
     (and_both (ltb 0 w.mask) (ltb w.mask (2 ^ 64)) (lt-ltb 0 w.mask a) (lt-ltb w.mask (2 ^ 64) b)) (lt-ltb w.index (2 ^ 26) c)
 
-forms-test : (lo : ℕ) (ws : List Window) → Rises lo ws → windowForms ws ≡ true
-unfolding Rises windowForms
-forms-test lo [] r = refl
-forms-test lo (w ∷ ws) r = and_both (windowForm w) (windowForms ws) (form-test w r.2 r.3 r.1) (forms-test (w.index + 1) ws r.4)
+forms_test : (lo : ℕ) (ws : List Window) → Rises lo ws → window_forms ws ≡ true
+unfolding Rises window_forms
+forms_test lo [] r = refl
+forms_test lo (w ∷ ws) r = and_both (window_form w) (window_forms ws) (form_test w r.2 r.3 r.1) (forms_test (w.index + 1) ws r.4)
 
 -- ---- zero windows
 
-blank-fact : (ws : List Window) → blank ws ≡ true → ws ≡ replicate (length ws) zeroWindow
+blank_fact : (ws : List Window) → blank ws ≡ true → ws ≡ replicate (length ws) zero_window
 unfolding blank
-blank-fact [] b = refl
-blank-fact (w ∷ ws) b =
-    let g = and-fst (eqb w.index 0 && eqb w.mask 0) (blank ws) b in
-    let i : w.index ≡ 0 = eqb-true w.index 0 (and-fst (eqb w.index 0) (eqb w.mask 0) g) in
-    let m : w.mask ≡ 0 = eqb-true w.mask 0 (and-snd (eqb w.index 0) (eqb w.mask 0) g) in
-    let z : w ≡ zeroWindow = λ j. record { index = i j; mask = m j } in
-    ap₂ ◌∷◌ z (blank-fact ws (and-snd (eqb w.index 0 && eqb w.mask 0) (blank ws) b))
+blank_fact [] b = refl
+blank_fact (w ∷ ws) b =
+    let g = and_fst (eqb w.index 0 && eqb w.mask 0) (blank ws) b in
+    let i : w.index ≡ 0 = eqb-true w.index 0 (and_fst (eqb w.index 0) (eqb w.mask 0) g) in
+    let m : w.mask ≡ 0 = eqb-true w.mask 0 (and_snd (eqb w.index 0) (eqb w.mask 0) g) in
+    let z : w ≡ zero_window = λ j. record { index = i j; mask = m j } in
+    ap₂ ◌∷◌ z (blank_fact ws (and_snd (eqb w.index 0 && eqb w.mask 0) (blank ws) b))
 
-pub blank-test : (n : ℕ) → blank (replicate n zeroWindow) ≡ true
+pub blank_test : (n : ℕ) → blank (replicate n zero_window) ≡ true
 unfolding blank
-blank-test zero = refl
-blank-test (suc n) = blank-test n
+blank_test zero = refl
+blank_test (suc n) = blank_test n
 
 -- ---- sets
 
@@ -90,15 +90,15 @@ blank-test (suc n) = blank-test n
 pub record Tidy (s : PageSet) : Type 0 where
   pub short : s.len ≤ 32
   pub whole : length s.windows ≡ 32
-  pub rest : drop s.len s.windows ≡ replicate (32 - s.len) zeroWindow
+  pub rest : drop s.len s.windows ≡ replicate (32 - s.len) zero_window
 
 pub record Normal (s : PageSet) : Type 0 where
   pub tidy : Tidy s
   pub rising : Rises 0 (shown s)
   pub no_zero : member s 0 ≡ false
 
-pub shown-length : (s : PageSet) → Tidy s → length (shown s) ≡ s.len
-shown-length s t = length-take-le s.len s.windows (omega (arith, t.short, t.whole))
+pub shown_length : (s : PageSet) → Tidy s → length (shown s) ≡ s.len
+shown_length s t = length-take-le s.len s.windows (omega (arith, t.short, t.whole))
 
 module _ (s : PageSet) (e : normal s ≡ true) where
   abbrev tests : Bool
@@ -106,62 +106,62 @@ module _ (s : PageSet) (e : normal s ≡ true) where
 
   outer : tests ≡ true
   unfolding normal
-  outer = and-fst tests (normalForm (shown s)) e
+  outer = and_fst tests (normal_form (shown s)) e
 
   -- the windows that a set in normal form shows are in normal form
-  pub shown-form : normalForm (shown s) ≡ true
+  pub shown_form : normal_form (shown s) ≡ true
   unfolding normal
-  shown-form = and-snd tests (normalForm (shown s)) e
+  shown_form = and_snd tests (normal_form (shown s)) e
 
   sizes : (leb s.len 32 && eqb (length s.windows) 32) ≡ true
-  sizes = and-fst _ (blank (drop s.len s.windows)) outer
+  sizes = and_fst _ (blank (drop s.len s.windows)) outer
 
   whole_of : length s.windows ≡ 32
-  whole_of = eqb-true _ 32 (and-snd (leb s.len 32) (eqb (length s.windows) 32) sizes)
+  whole_of = eqb-true _ 32 (and_snd (leb s.len 32) (eqb (length s.windows) 32) sizes)
 
   abbrev ordered : Bool
-  ordered = leb (length (shown s)) 32 && rising 0 (shown s) && windowForms (shown s)
+  ordered = leb (length (shown s)) 32 && rising 0 (shown s) && window_forms (shown s)
 
   ordered_of : ordered ≡ true
-  unfolding normalForm
-  ordered_of = and-fst ordered (not (holds (shown s) 0)) shown-form
+  unfolding normal_form
+  ordered_of = and_fst ordered (not (holds (shown s) 0)) shown_form
 
-  pub normal-fact : Normal s
-  unfolding normalForm
-  normal-fact =
+  pub normal_fact : Normal s
+  unfolding normal_form
+  normal_fact =
       record {
         tidy = record {
-          short = leb-true s.len 32 (and-fst (leb s.len 32) (eqb (length s.windows) 32) sizes);
+          short = leb-true s.len 32 (and_fst (leb s.len 32) (eqb (length s.windows) 32) sizes);
           whole = whole_of;
           rest =
-              blank-fact _ (and-snd (leb s.len 32 && eqb (length s.windows) 32) (blank (drop s.len s.windows)) outer)
-              ∙ ap (λ (n : ℕ). replicate n zeroWindow) (length-drop s.len s.windows ∙ ap (λ (n : ℕ). n - s.len) whole_of);
+              blank_fact _ (and_snd (leb s.len 32 && eqb (length s.windows) 32) (blank (drop s.len s.windows)) outer)
+              ∙ ap (λ (n : ℕ). replicate n zero_window) (length-drop s.len s.windows ∙ ap (λ (n : ℕ). n - s.len) whole_of);
         };
         rising =
-            rises-fact 0 (shown s)
-            (and-snd (leb (length (shown s)) 32) (rising 0 (shown s)) (and-fst (leb (length (shown s)) 32 && rising 0 (shown s)) (windowForms (shown s)) ordered_of))
-            (and-snd (leb (length (shown s)) 32 && rising 0 (shown s)) (windowForms (shown s)) ordered_of);
-        no_zero = not-true (holds (shown s) 0) (and-snd ordered (not (holds (shown s) 0)) shown-form);
+            rises_fact 0 (shown s)
+            (and_snd (leb (length (shown s)) 32) (rising 0 (shown s)) (and_fst (leb (length (shown s)) 32 && rising 0 (shown s)) (window_forms (shown s)) ordered_of))
+            (and_snd (leb (length (shown s)) 32 && rising 0 (shown s)) (window_forms (shown s)) ordered_of);
+        no_zero = not-true (holds (shown s) 0) (and_snd ordered (not (holds (shown s) 0)) shown_form);
       }
 
-pub normal-test : (s : PageSet) → Normal s → normal s ≡ true
-unfolding normal normalForm
-normal-test s t =
-    let l : length (shown s) ≤ 32 = omega (arith, shown-length s t.tidy, t.tidy.short) in
+pub normal_test : (s : PageSet) → Normal s → normal s ≡ true
+unfolding normal normal_form
+normal_test s t =
+    let l : length (shown s) ≤ 32 = omega (arith, shown_length s t.tidy, t.tidy.short) in
     and_both _ _
-    (and_both _ _ (and_both _ _ (le-leb s.len 32 t.tidy.short) (eq-eqb _ 32 t.tidy.whole)) (ap blank t.tidy.rest ∙ blank-test (32 - s.len)))
-    (and_both _ _ (and_both _ _ (and_both _ _ (le-leb (length (shown s)) 32 l) (rising-test 0 (shown s) t.rising)) (forms-test 0 (shown s) t.rising)) (not_is _ t.no_zero))
+    (and_both _ _ (and_both _ _ (le-leb s.len 32 t.tidy.short) (eq-eqb _ 32 t.tidy.whole)) (ap blank t.tidy.rest ∙ blank_test (32 - s.len)))
+    (and_both _ _ (and_both _ _ (and_both _ _ (le-leb (length (shown s)) 32 l) (rising_test 0 (shown s) t.rising)) (forms_test 0 (shown s) t.rising)) (not_is _ t.no_zero))
 
 -- ---- the test, as the code makes it
 
 module _ (s : PageSet) where
   pub too_many : 32 < s.len → normal s ≡ false
   unfolding normal
-  too_many h = and_left _ (normalForm (shown s)) (and_left _ (blank (drop s.len s.windows)) (and_left _ (eqb (length s.windows) 32) (lt-leb s.len 32 h)))
+  too_many h = and_left _ (normal_form (shown s)) (and_left _ (blank (drop s.len s.windows)) (and_left _ (eqb (length s.windows) 32) (lt-leb s.len 32 h)))
 
-  pub not-blank : blank (drop s.len s.windows) ≡ false → normal s ≡ false
+  pub not_blank : blank (drop s.len s.windows) ≡ false → normal s ≡ false
   unfolding normal
-  not-blank e = and_left _ (normalForm (shown s)) (and_right (leb s.len 32 && eqb (length s.windows) 32) _ e)
+  not_blank e = and_left _ (normal_form (shown s)) (and_right (leb s.len 32 && eqb (length s.windows) 32) _ e)
 
   -- the tests of order, in the grouping of the definition
   regroup : (a b c d : Bool) → (b && c) ≡ false → (a && b && c && d) ≡ false
@@ -169,20 +169,20 @@ module _ (s : PageSet) where
   regroup true false c d e = refl
   regroup false b c d e = refl
 
-  pub not-ordered : (rising 0 (shown s) && windowForms (shown s)) ≡ false → normal s ≡ false
-  unfolding normal normalForm
-  not-ordered e =
+  pub not_ordered : (rising 0 (shown s) && window_forms (shown s)) ≡ false → normal s ≡ false
+  unfolding normal normal_form
+  not_ordered e =
       and_right (leb s.len 32 && eqb (length s.windows) 32 && blank (drop s.len s.windows)) _
-      (regroup (leb (length (shown s)) 32) (rising 0 (shown s)) (windowForms (shown s)) (not (holds (shown s) 0)) e)
+      (regroup (leb (length (shown s)) 32) (rising 0 (shown s)) (window_forms (shown s)) (not (holds (shown s) 0)) e)
 
-  pub but-zero : s.len ≤ 32 → length s.windows ≡ 32 → blank (drop s.len s.windows) ≡ true → (rising 0 (shown s) && windowForms (shown s)) ≡ true
+  pub but_zero : s.len ≤ 32 → length s.windows ≡ 32 → blank (drop s.len s.windows) ≡ true → (rising 0 (shown s) && window_forms (shown s)) ≡ true
       → not (holds (shown s) 0) ≡ normal s
-  unfolding normal normalForm
-  but-zero h w b e =
+  unfolding normal normal_form
+  but_zero h w b e =
       let l : length (shown s) ≤ 32 = omega (arith, length-take s.len s.windows) in
-      rw (le-leb s.len 32 h, eq-eqb (length s.windows) 32 w, b, le-leb (length (shown s)) 32 l, and-fst (rising 0 (shown s)) (windowForms (shown s)) e, and-snd (rising 0 (shown s)) (windowForms (shown s)) e)
+      rw (le-leb s.len 32 h, eq-eqb (length s.windows) 32 w, b, le-leb (length (shown s)) 32 l, and_fst (rising 0 (shown s)) (window_forms (shown s)) e, and_snd (rising 0 (shown s)) (window_forms (shown s)) e)
 
 -- the empty set is in normal form
-pub empty-normal : normal emptySet ≡ true
-unfolding normal blank normalForm rising windowForms holds bit maskAt
-empty-normal = refl
+pub empty_normal : normal empty_set ≡ true
+unfolding normal blank normal_form rising window_forms holds bit mask_at
+empty_normal = refl

@@ -1,7 +1,7 @@
 // The bits of one window.
 ghost use Rattle.std.specs.Prelude.{◌≡◌, ◌-◌, ◌^◌, ◌<◌, ◌≤◌};
 ghost use Rattle.pageset.specs.Sets.{bit};
-ghost use Rattle.pageset.specs.Windows.{up_to, spanMask};
+ghost use Rattle.pageset.specs.Windows.{up_to, span_mask};
 
 // Whether bit b of a mask is set.
 pub fn has_bit(m: u64, b: u32) -> bool
@@ -40,7 +40,7 @@ fn up_to(q: u32, n: u32) -> u64
 pub fn span_mask(q: u32, lo: u32, hi: u32) -> u64
     requires q_bound { q < 67108864 }
     requires lo_nonzero { 0 < lo }
-    ensures { result ≡ spanMask lo hi q }
+    ensures { result ≡ span_mask lo hi q }
 {
     up_to(q, hi) & !up_to(q, lo - 1)
 }

@@ -1,13 +1,13 @@
 // A set's form.
 ghost use Rattle.std.specs.Prelude.{◌≡◌, ◌≤◌, ◌&&◌, drop};
-ghost use Rattle.pageset.specs.Sets.{shown, maskAt, holds, rising, windowForms, blank, normal};
+ghost use Rattle.pageset.specs.Sets.{shown, mask_at, holds, rising, window_forms, blank, normal};
 
 use crate::{PageSet, bits};
 
 // Whether the windows that count strictly rise and each holds a page.
 fn in_order(s: PageSet) -> bool
     requires { s.len ≤ 32 }
-    ensures { result ≡ (rising 0 (shown s) && windowForms (shown s)) }
+    ensures { result ≡ (rising 0 (shown s) && window_forms (shown s)) }
 {
     let n = s.len;
     let ws = s.windows;
@@ -53,7 +53,7 @@ fn clear_past(s: PageSet) -> bool
 // The mask of window q, and 0 where there is none.
 pub fn mask_at(s: PageSet, q: u32) -> u64
     requires { s.len ≤ 32 }
-    ensures { result ≡ maskAt (shown s) q }
+    ensures { result ≡ mask_at (shown s) q }
 {
     let n = s.len;
     let ws = s.windows;

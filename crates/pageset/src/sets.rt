@@ -1,19 +1,19 @@
 // Sets in normal form: what each operation makes of them.
 ghost use Rattle.std.specs.Prelude.{◌≡◌, ℕ, ◌^◌, ◌<◌, ◌≤◌, true, false, not, ◌&&◌, ◌||◌, if◌then◌else◌, nat_eq, nat_le};
-ghost use Rattle.std.specs.Answers.{done};
-ghost use Rattle.std.specs.Says.{maybePageSays};
+ghost use Rattle.basics.specs.Answers.{done};
+ghost use Rattle.basics.specs.Says.{maybe_page_says};
 ghost use Rattle.pageset.specs.Sets.{member, normal};
 ghost use Rattle.pageset.specs.Counts.{count, lowest, highest, any_of, all_of};
 ghost use Rattle.pageset.specs.Rules.{within};
-ghost use Rattle.pageset.specs.Says.{emptySet, refusedSet, IsSet, GivesOr22};
+ghost use Rattle.pageset.specs.Says.{empty_set, refused_set, IsSet, GivesOr22};
 
 use crate::{CutAnswer, PageSet, SetAnswer, Window, bits, form, walk};
-use core::page_count::{MaybePage, PageCount};
-use core::pageidx::PageIdx;
+use basics::page_count::{MaybePage, PageCount};
+use basics::pageidx::PageIdx;
 
 // The set of no page.
 pub fn empty() -> PageSet
-    ensures { result ≡ emptySet }
+    ensures { result ≡ empty_set }
 {
     PageSet {
         len: 0,
@@ -23,7 +23,7 @@ pub fn empty() -> PageSet
 
 // A refusal's number; its value is the empty set.
 pub fn refusal(code: u32) -> SetAnswer
-    ensures { result ≡ refusedSet code }
+    ensures { result ≡ refused_set code }
 {
     let set = empty();
     SetAnswer { code, set }
@@ -57,7 +57,7 @@ pub fn cardinality(s: PageSet) -> PageCount
 // The first page of a set, or nothing: trailing zeros of the first mask.
 pub fn first(s: PageSet) -> MaybePage
     requires { normal s ≡ true }
-    ensures { maybePageSays result ≡ lowest (member s) (2 ^ 32) }
+    ensures { maybe_page_says result ≡ lowest (member s) (2 ^ 32) }
 {
     let n = s.len;
     if n == 0 {
@@ -72,7 +72,7 @@ pub fn first(s: PageSet) -> MaybePage
 // The last page of a set, or nothing: leading zeros of the last mask.
 pub fn last(s: PageSet) -> MaybePage
     requires { normal s ≡ true }
-    ensures { maybePageSays result ≡ highest (member s) (2 ^ 32) }
+    ensures { maybe_page_says result ≡ highest (member s) (2 ^ 32) }
 {
     let n = s.len;
     if n == 0 {

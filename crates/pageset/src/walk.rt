@@ -1,6 +1,6 @@
 // One turn of a walk over windows, on plain values: what is read, and what is written.
 ghost use Rattle.std.specs.Prelude.{◌≡◌, ◌+◌, ◌-◌, ◌^◌, ◌<◌, ◌≤◌, min, if◌then◌else◌, bit_and, nat_eq, nat_lt};
-ghost use Rattle.pageset.specs.Windows.{pastAll, turn_of, windowOf};
+ghost use Rattle.pageset.specs.Windows.{past_all, turn_of, window_of};
 
 use crate::Window;
 
@@ -13,7 +13,7 @@ pub fn clamp(i: usize) -> usize
 
 // The next window of n, or past the last one a window above all others that holds no page.
 pub fn head(n: usize, i: usize, w: Window) -> Window
-    ensures { result ≡ (if nat_lt i n then w else pastAll) }
+    ensures { result ≡ (if nat_lt i n then w else past_all) }
 {
     if i < n {
         w
@@ -69,7 +69,7 @@ pub fn next_turn(x: Window, y: Window) -> Turn
 
 // The window of index q and that mask, and the zero window where the mask is zero.
 pub fn window_of(q: u32, m: u64) -> Window
-    ensures { result ≡ windowOf q m }
+    ensures { result ≡ window_of q m }
 {
     if m == 0 {
         Window { index: 0, mask: 0 }

@@ -2,16 +2,16 @@
 // it stays good while commits of other logs are stored.
 ghost use Rattle.std.specs.Prelude.{◌≡◌, ◌+◌, ◌-◌, ◌<◌, ◌≤◌, true, length};
 ghost use Rattle.rules.specs.Lists.{first};
-ghost use Rattle.rules.specs.Walk.{in_range, pathCommits};
-ghost use Rattle.volume.specs.Snapshots.{rangeSays};
-ghost use Rattle.layout.specs.Tables.{commitsIn, commitsOk};
+ghost use Rattle.rules.specs.Walk.{in_range, path_commits};
+ghost use Rattle.volume.specs.Snapshots.{range_says};
+ghost use Rattle.layout.specs.Tables.{commits_in, commits_ok};
 ghost use Rattle.commits.specs.Places.{PlaceOf};
-ghost use Rattle.paths.specs.Left.{leading, isLeft, leftSays, leftWithout, Meets};
+ghost use Rattle.paths.specs.Left.{leading, is_left, left_says, left_without, Meets};
 
 use commits::{Place, lsn_at, range_run};
-use core::id;
-use core::id::LogId;
-use core::lsn::Lsn;
+use basics::id;
+use basics::id::LogId;
+use basics::lsn::Lsn;
 use volume::snapshot::LogRange;
 
 // What is left of a path: its ranges from `at` up to `len`.
@@ -31,8 +31,8 @@ pub struct Met {
 
 // Where the first commit of a range stands, the one with its highest LSN.
 fn first_in(commits: &[u8], range: LogRange) -> Place
-    requires { commitsOk commits.now ≡ true }
-    ensures { PlaceOf commits.now (first (in_range (rangeSays range)) (commitsIn commits.now).rows) result }
+    requires { commits_ok commits.now ≡ true }
+    ensures { PlaceOf commits.now (first (in_range (range_says range)) (commits_in commits.now).rows) result }
 {
     let log = range.log;
     let run = range_run(commits, log, range.start.0, range.end.0);
@@ -45,8 +45,8 @@ fn first_in(commits: &[u8], range: LogRange) -> Place
 
 // The number of the first range left that has a commit, and `len` where none has.
 fn next_range(commits: &[u8], left: Left) -> usize
-    requires { (commitsOk commits.now ≡ true) × isLeft left }
-    ensures { result ≡ left.at + leading (commitsIn commits.now) (leftSays left) }
+    requires { (commits_ok commits.now ≡ true) × is_left left }
+    ensures { result ≡ left.at + leading (commits_in commits.now) (left_says left) }
 {
     let path = left.path;
     let len = left.len;
@@ -63,8 +63,8 @@ fn next_range(commits: &[u8], left: Left) -> usize
 
 // The next commit of what is left, which has one.
 pub fn next_commit(commits: &[u8], left: Left) -> Met
-    requires commits_value { (commitsOk commits.now ≡ true) × isLeft left }
-    requires nonzero { 0 < length (pathCommits (commitsIn commits.now) (leftSays left)) }
+    requires commits_value { (commits_ok commits.now ≡ true) × is_left left }
+    requires nonzero { 0 < length (path_commits (commits_in commits.now) (left_says left)) }
     ensures { Meets commits.now left result }
 {
     let len = left.len;
@@ -95,8 +95,8 @@ fn run_length(from: usize, to: usize) -> usize
 
 // How many commits are left.
 pub fn commits_left(commits: &[u8], left: Left) -> usize
-    requires { (commitsOk commits.now ≡ true) × isLeft left }
-    ensures { result ≡ length (pathCommits (commitsIn commits.now) (leftSays left)) }
+    requires { (commits_ok commits.now ≡ true) × is_left left }
+    ensures { result ≡ length (path_commits (commits_in commits.now) (left_says left)) }
 {
     let path = left.path;
     let len = left.len;
@@ -115,7 +115,7 @@ pub fn commits_left(commits: &[u8], left: Left) -> usize
 // The ranges of a path that do not name a log, moved to its front.
 pub fn without(path: [LogRange; 8], len: usize, log: LogId) -> Left
     requires { len ≤ 8 }
-    ensures { result ≡ leftWithout path len log }
+    ensures { result ≡ left_without path len log }
 {
     let mut kept = path;
     let mut n: usize = 0;

@@ -2,9 +2,9 @@
 use crate::plain;
 use crate::plain::Plain;
 use commit::{Presence, RangeAnswer, SegmentRange};
-use core::id;
-use core::id::SegmentId;
-use core::pageidx::PageIdx;
+use basics::id;
+use basics::id::SegmentId;
+use basics::pageidx::PageIdx;
 use frames::BytesAnswer;
 use plainset::tally::Tally;
 use plainset::{held, said, tally};

@@ -1,8 +1,8 @@
 // A set beside the list of its pages, and each call's answer against the list's.
 use crate::tally::Tally;
 use crate::{naive, said, tally};
-use core::page_count::PageCount;
-use core::pageidx::PageIdx;
+use basics::page_count::PageCount;
+use basics::pageidx::PageIdx;
 use pageset::{CutAnswer, PageSet, SetAnswer, sets};
 
 // A set, and its pages as a list.

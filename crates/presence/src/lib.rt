@@ -1,25 +1,25 @@
 // The table of present pages: lookups, marks and removals, in the words of document 01's tables. A record is its key.
 ghost use Rattle.std.specs.Prelude.{◌≡◌, ◌<◌, true};
-ghost use Rattle.std.specs.Orders.{sidPage};
+ghost use Rattle.basics.specs.Orders.{sid_page};
 ghost use Rattle.rules.specs.Lists.{any, is_some};
-ghost use Rattle.rules.specs.Records.{presentKey};
-ghost use Rattle.rules.specs.Tables.{getPresent, store, remove, fits};
-ghost use Rattle.rules.specs.Reads.{presentIn};
-ghost use Rattle.layout.specs.Records.{presentBytes};
-ghost use Rattle.layout.specs.Tables.{presenceIn, presenceOk, laidOver};
-ghost use Rattle.presence.specs.Pages.{page_of, ofSegment};
+ghost use Rattle.rules.specs.Records.{present_key};
+ghost use Rattle.rules.specs.Tables.{get_present, store, remove, fits};
+ghost use Rattle.rules.specs.Reads.{present_in};
+ghost use Rattle.layout.specs.Records.{present_bytes};
+ghost use Rattle.layout.specs.Tables.{presence_in, presence_ok, laid_over};
+ghost use Rattle.presence.specs.Pages.{page_of, of_segment};
 
-use core::id;
-use core::id::SegmentId;
-use core::pageidx::PageIdx;
+use basics::id;
+use basics::id::SegmentId;
+use basics::pageidx::PageIdx;
 use entries::present_key;
 use layout::PRESENT;
 use table::Spot;
 
 // Whether a page of a segment is present.
 pub fn is_present(t: &[u8], sid: SegmentId, page: PageIdx) -> bool
-    requires { presenceOk t.now ≡ true }
-    ensures { result ≡ is_some (getPresent (presenceIn t.now) sid page.0) }
+    requires { presence_ok t.now ≡ true }
+    ensures { result ≡ is_some (get_present (presence_in t.now) sid page.0) }
 {
     let key = present_key(sid, page);
     match table::find(t, PRESENT, PRESENT, &key) {
@@ -30,8 +30,8 @@ pub fn is_present(t: &[u8], sid: SegmentId, page: PageIdx) -> bool
 
 // Whether any page of a segment is present.
 pub fn any_present(t: &[u8], sid: SegmentId) -> bool
-    requires { presenceOk t.now ≡ true }
-    ensures { result ≡ any (ofSegment sid) (presenceIn t.now).rows }
+    requires { presence_ok t.now ≡ true }
+    ensures { result ≡ any (of_segment sid) (presence_in t.now).rows }
 {
     let key = present_key(sid, PageIdx(4294967295));
     let i = table::from_key(t, PRESENT, PRESENT, &key);
@@ -43,8 +43,8 @@ pub fn any_present(t: &[u8], sid: SegmentId) -> bool
 
 // Whether there is room to mark a page present: it is, or one record more fits.
 pub fn room_for_page(t: &[u8], sid: SegmentId, page: PageIdx) -> bool
-    requires { (presenceOk t.now ≡ true) × (0 < page.0) }
-    ensures { result ≡ fits (store presentKey sidPage (page_of sid page.0) (presenceIn t.now)) }
+    requires { (presence_ok t.now ≡ true) × (0 < page.0) }
+    ensures { result ≡ fits (store present_key sid_page (page_of sid page.0) (presence_in t.now)) }
 {
     let key = present_key(sid, page);
     table::room(t, PRESENT, PRESENT, &key)
@@ -52,9 +52,9 @@ pub fn room_for_page(t: &[u8], sid: SegmentId, page: PageIdx) -> bool
 
 // A page is marked present; there is room for it.
 pub fn put_page(t: &mut [u8], sid: SegmentId, page: PageIdx)
-    requires t_value { (presenceOk t.old ≡ true) × (0 < page.0) }
-    requires t_value_2 { fits (store presentKey sidPage (page_of sid page.0) (presenceIn t.old)) ≡ true }
-    ensures { t.new ≡ laidOver presentBytes (store presentKey sidPage (page_of sid page.0) (presenceIn t.old)) t.old }
+    requires t_value { (presence_ok t.old ≡ true) × (0 < page.0) }
+    requires t_value_2 { fits (store present_key sid_page (page_of sid page.0) (presence_in t.old)) ≡ true }
+    ensures { t.new ≡ laid_over present_bytes (store present_key sid_page (page_of sid page.0) (presence_in t.old)) t.old }
 {
     let key = present_key(sid, page);
     table::put(t, PRESENT, PRESENT, &key);
@@ -62,8 +62,8 @@ pub fn put_page(t: &mut [u8], sid: SegmentId, page: PageIdx)
 
 // The pages of a segment from one to another are present no more; where none is, nothing changes.
 pub fn remove_pages(t: &mut [u8], sid: SegmentId, first: PageIdx, last: PageIdx)
-    requires { presenceOk t.old ≡ true }
-    ensures { t.new ≡ laidOver presentBytes (remove (presentIn sid first.0 last.0) (presenceIn t.old)) t.old }
+    requires { presence_ok t.old ≡ true }
+    ensures { t.new ≡ laid_over present_bytes (remove (present_in sid first.0 last.0) (presence_in t.old)) t.old }
 {
     let from_key = present_key(sid, last);
     let to_key = present_key(sid, first);

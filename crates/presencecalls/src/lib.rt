@@ -1,21 +1,21 @@
 // The calls on present pages: whether a page is, mark one, remove one, remove a range. Each answers on every input: 20, then 1 for page 0.
 ghost use Rattle.std.specs.Prelude.{◌≡◌};
-ghost use Rattle.std.specs.Answers.{code};
-ghost use Rattle.pagecalls.specs.Says.{yesSays};
-ghost use Rattle.rules.specs.Reads.{pagePresent, pageMark, pageRemove, pagesRemove};
-ghost use Rattle.layout.specs.Records.{presentBytes};
-ghost use Rattle.layout.specs.Tables.{presenceIn, presenceOk};
+ghost use Rattle.basics.specs.Answers.{code};
+ghost use Rattle.pagecalls.specs.Says.{yes_says};
+ghost use Rattle.rules.specs.Reads.{page_present, page_mark, page_remove, pages_remove};
+ghost use Rattle.layout.specs.Records.{present_bytes};
+ghost use Rattle.layout.specs.Tables.{presence_in, presence_ok};
 ghost use Rattle.layout.specs.Lent.{lent, after};
 
-use core::id::SegmentId;
-use core::pageidx::PageIdx;
+use basics::id::SegmentId;
+use basics::pageidx::PageIdx;
 use entries::presence_formed;
 use pagecalls::YesAnswer;
 use presence::{is_present, put_page, remove_pages, room_for_page};
 
 // Whether a page of a segment is present: 20, 1.
 pub fn page_present(presence: &[u8], sid: SegmentId, page: PageIdx) -> YesAnswer
-    ensures { yesSays result ≡ lent (presenceOk presence.now) (pagePresent (presenceIn presence.now) sid page.0) }
+    ensures { yes_says result ≡ lent (presence_ok presence.now) (page_present (presence_in presence.now) sid page.0) }
 {
     if !presence_formed(presence) {
         return YesAnswer::Refused(20);
@@ -31,8 +31,8 @@ pub fn page_present(presence: &[u8], sid: SegmentId, page: PageIdx) -> YesAnswer
 
 // A page of a segment marked present; where it is already, nothing changes: 20, 1, 19.
 pub fn page_mark(presence: &mut [u8], sid: SegmentId, page: PageIdx) -> u32
-    ensures value { result ≡ code (lent (presenceOk presence.old) (pageMark (presenceIn presence.old) sid page.0)) }
-    ensures presence_after { presence.new ≡ after presentBytes (λ t. t) presence.old (lent (presenceOk presence.old) (pageMark (presenceIn presence.old) sid page.0)) }
+    ensures value { result ≡ code (lent (presence_ok presence.old) (page_mark (presence_in presence.old) sid page.0)) }
+    ensures presence_after { presence.new ≡ after present_bytes (λ t. t) presence.old (lent (presence_ok presence.old) (page_mark (presence_in presence.old) sid page.0)) }
 {
     if !presence_formed(presence) {
         return 20;
@@ -49,8 +49,8 @@ pub fn page_mark(presence: &mut [u8], sid: SegmentId, page: PageIdx) -> u32
 
 // A page of a segment is present no more; where it is not, nothing changes: 20, 1.
 pub fn page_remove(presence: &mut [u8], sid: SegmentId, page: PageIdx) -> u32
-    ensures value { result ≡ code (lent (presenceOk presence.old) (pageRemove (presenceIn presence.old) sid page.0)) }
-    ensures presence_after { presence.new ≡ after presentBytes (λ t. t) presence.old (lent (presenceOk presence.old) (pageRemove (presenceIn presence.old) sid page.0)) }
+    ensures value { result ≡ code (lent (presence_ok presence.old) (page_remove (presence_in presence.old) sid page.0)) }
+    ensures presence_after { presence.new ≡ after present_bytes (λ t. t) presence.old (lent (presence_ok presence.old) (page_remove (presence_in presence.old) sid page.0)) }
 {
     if !presence_formed(presence) {
         return 20;
@@ -64,8 +64,8 @@ pub fn page_remove(presence: &mut [u8], sid: SegmentId, page: PageIdx) -> u32
 
 // The pages of a segment from first to last are present no more; where none is, nothing changes: 20, 1, 2.
 pub fn pages_remove(presence: &mut [u8], sid: SegmentId, first: PageIdx, last: PageIdx) -> u32
-    ensures value { result ≡ code (lent (presenceOk presence.old) (pagesRemove (presenceIn presence.old) sid first.0 last.0)) }
-    ensures presence_after { presence.new ≡ after presentBytes (λ t. t) presence.old (lent (presenceOk presence.old) (pagesRemove (presenceIn presence.old) sid first.0 last.0)) }
+    ensures value { result ≡ code (lent (presence_ok presence.old) (pages_remove (presence_in presence.old) sid first.0 last.0)) }
+    ensures presence_after { presence.new ≡ after present_bytes (λ t. t) presence.old (lent (presence_ok presence.old) (pages_remove (presence_in presence.old) sid first.0 last.0)) }
 {
     if !presence_formed(presence) {
         return 20;

@@ -3,25 +3,25 @@
 ghost use Rattle.std.specs.Prelude.{◌≡◌, ℕ, ◌+◌, ◌*◌, ◌<◌, true, ◌&&◌, ◌==◌};
 ghost use Rattle.std.proofs.Math.Option.{some};
 ghost use Rattle.octets.specs.Bytes.{part};
-ghost use Rattle.std.specs.Answers.{code, done};
-ghost use Rattle.std.specs.Orders.{bytes};
-ghost use Rattle.rules.specs.Records.{Volume as RulesVolume, Pending, volumeKey};
-ghost use Rattle.rules.specs.Tables.{Table, fits, store, getCommit};
+ghost use Rattle.basics.specs.Answers.{code, done};
+ghost use Rattle.basics.specs.Orders.{bytes};
+ghost use Rattle.rules.specs.Records.{Volume as RulesVolume, Pending, volume_key};
+ghost use Rattle.rules.specs.Tables.{Table, fits, store, get_commit};
 ghost use Rattle.rules.specs.Write.{Logs, write};
-ghost use Rattle.rules.specs.Push.{isHash, sameThere, pushedVolume, recover as recoverRule};
+ghost use Rattle.rules.specs.Push.{is_hash, same_there, pushed_volume, recover as recoverRule};
 ghost use Rattle.table.specs.Table.{count_of};
-ghost use Rattle.volume.specs.Volumes.{volumeSays};
-ghost use Rattle.layout.specs.Records.{volumeBytes, commitBytes, checkpointBytes, entryBytes};
-ghost use Rattle.layout.specs.Tables.{volumesIn, volumesOk, commitsIn, commitsOk, checkpointsOk, indexOk, laidOver};
+ghost use Rattle.volume.specs.Volumes.{volume_says};
+ghost use Rattle.layout.specs.Records.{volume_bytes, commit_bytes, checkpoint_bytes, entry_bytes};
+ghost use Rattle.layout.specs.Tables.{volumes_in, volumes_ok, commits_in, commits_ok, checkpoints_ok, index_ok, laid_over};
 ghost use Rattle.layout.specs.Lent.{lent, after};
-ghost use Rattle.writecalls.specs.Written.{IsCommit, commitIn, logsIn};
-ghost use Rattle.pushcalls.specs.Pushes.{pushOk, commitAsked, successIn, successFound, number_of, Stands, Ready, PushedAt, DroppedAt, Planned, Recovers, RecoversFound};
+ghost use Rattle.writecalls.specs.Written.{IsCommit, commit_in, logs_in};
+ghost use Rattle.pushcalls.specs.Pushes.{push_ok, commit_asked, success_in, success_found, number_of, Stands, Ready, PushedAt, DroppedAt, Planned, Recovers, RecoversFound};
 
 use commitbytes::{commit_form, commit_lsns_ok, fields};
 use commits::{Place, find_commit, hash_is};
-use core::commit_hash;
-use core::commit_hash::CommitHash;
-use core::id::VolumeId;
+use basics::commit_hash;
+use basics::commit_hash::CommitHash;
+use basics::id::VolumeId;
 use layout::COMMIT;
 use table::Spot;
 use volume::volume::{MaybeLsn, PendingCommit, Sync, SyncPoint, Volume};
@@ -48,7 +48,7 @@ pub enum Recovery {
 
 // Whether the four lent tables are formed (20).
 fn push_formed(volumes: &[u8], commits: &[u8], checkpoints: &[u8], index: &[u8]) -> bool
-    ensures { result ≡ pushOk volumes.now commits.now checkpoints.now index.now }
+    ensures { result ≡ push_ok volumes.now commits.now checkpoints.now index.now }
 {
     if !volumes_formed(volumes) {
         return false;
@@ -58,7 +58,7 @@ fn push_formed(volumes: &[u8], commits: &[u8], checkpoints: &[u8], index: &[u8])
 
 // The number that a commit given as bytes earns by itself: 3 for another number of bytes, 1, 3, or 0.
 fn commit_number(c: &[u8]) -> u32
-    ensures { result ≡ code (commitAsked c.now) }
+    ensures { result ≡ code (commit_asked c.now) }
 {
     if c.len() != COMMIT {
         return 3;
@@ -75,7 +75,7 @@ fn commit_number(c: &[u8]) -> u32
 // Whether a commit has the pending one's LSN and hash (14).
 fn is_pending(c: &[u8], lsn: u64, hash: CommitHash) -> bool
     requires { IsCommit c.now }
-    ensures { result ≡ ((commitIn c.now).lsn == lsn && isHash (commitIn c.now).hash hash) }
+    ensures { result ≡ ((commit_in c.now).lsn == lsn && is_hash (commit_in c.now).hash hash) }
 {
     let own = fields::commit_lsn(c, 0);
     if own.0 != lsn {
@@ -86,8 +86,8 @@ fn is_pending(c: &[u8], lsn: u64, hash: CommitHash) -> bool
 
 // Whether no commit is stored at a commit's log and LSN, or one with that hash (15).
 fn same_there(commits: &[u8], c: &[u8], hash: CommitHash) -> bool
-    requires { (commitsOk commits.now ≡ true) × IsCommit c.now }
-    ensures { result ≡ sameThere (getCommit (commitsIn commits.now) (commitIn c.now).log (commitIn c.now).lsn) hash }
+    requires { (commits_ok commits.now ≡ true) × IsCommit c.now }
+    ensures { result ≡ same_there (get_commit (commits_in commits.now) (commit_in c.now).log (commit_in c.now).lsn) hash }
 {
     let log = fields::commit_log(c, 0);
     let lsn = fields::commit_lsn(c, 0);
@@ -101,7 +101,7 @@ fn same_there(commits: &[u8], c: &[u8], hash: CommitHash) -> bool
 
 // The volume after the push of its pending commit: that is its sync point, and nothing is pending.
 fn pushed(v: Volume) -> Volume
-    ensures { (p : Pending) → (volumeSays v).pending ≡ some p → volumeSays result ≡ pushedVolume (volumeSays v) p }
+    ensures { (p : Pending) → (volume_says v).pending ≡ some p → volume_says result ≡ pushed_volume (volume_says v) p }
 {
     let pending = v.pending;
     let PendingCommit::At { local, commit } = pending else {
@@ -117,7 +117,7 @@ fn pushed(v: Volume) -> Volume
 
 // The bytes of the commit at a place.
 fn commit_copy(t: &[u8], i: usize) -> [u8; 722]
-    requires { (commitsOk t.now ≡ true) × (i < count_of t.now) }
+    requires { (commits_ok t.now ≡ true) × (i < count_of t.now) }
     ensures { result ≡ part (2 + i * 722) 722 t.now }
 {
     let mut row = [0u8; 722];
@@ -127,8 +127,8 @@ fn commit_copy(t: &[u8], i: usize) -> [u8; 722]
 
 // The volume at a place without its pending commit.
 fn drop_stored(volumes: &mut [u8], i: usize)
-    requires { (volumesOk volumes.old ≡ true) × ((v : RulesVolume) × Stands volumes.old i v) }
-    ensures { DroppedAt volumes.old i (λ vs. volumes.new ≡ laidOver volumeBytes vs volumes.old) }
+    requires { (volumes_ok volumes.old ≡ true) × ((v : RulesVolume) × Stands volumes.old i v) }
+    ensures { DroppedAt volumes.old i (λ vs. volumes.new ≡ laid_over volume_bytes vs volumes.old) }
 {
     let v = volume_at(volumes, i);
     store_volume(
@@ -148,10 +148,10 @@ fn push_stored(
     c: &[u8],
 )
     requires { Ready volumes.old commits.old checkpoints.old index.old c.now i }
-    ensures pushed_at { PushedAt volumes.old i (λ vs. volumes.new ≡ laidOver volumeBytes vs volumes.old) }
-    ensures commits_after { commits.new ≡ laidOver commitBytes (write (logsIn commits.old checkpoints.old index.old) (commitIn c.now)).commits commits.old }
-    ensures checkpoints_after { checkpoints.new ≡ laidOver checkpointBytes (write (logsIn commits.old checkpoints.old index.old) (commitIn c.now)).checkpoints checkpoints.old }
-    ensures index_after { index.new ≡ laidOver entryBytes (write (logsIn commits.old checkpoints.old index.old) (commitIn c.now)).index index.old }
+    ensures pushed_at { PushedAt volumes.old i (λ vs. volumes.new ≡ laid_over volume_bytes vs volumes.old) }
+    ensures commits_after { commits.new ≡ laid_over commit_bytes (write (logs_in commits.old checkpoints.old index.old) (commit_in c.now)).commits commits.old }
+    ensures checkpoints_after { checkpoints.new ≡ laid_over checkpoint_bytes (write (logs_in commits.old checkpoints.old index.old) (commit_in c.now)).checkpoints checkpoints.old }
+    ensures index_after { index.new ≡ laid_over entry_bytes (write (logs_in commits.old checkpoints.old index.old) (commit_in c.now)).index index.old }
 {
     let v = volume_at(volumes, i);
     store_volume(volumes, i, pushed(v));
@@ -162,9 +162,9 @@ fn push_stored(
 
 // The number that success answers on a volume that was found, with nothing stored: 10, 14, 15, 19, or 0.
 fn push_number(commits: &[u8], checkpoints: &[u8], index: &[u8], v: Volume, c: &[u8]) -> u32
-    requires commits_value { (commitsOk commits.now ≡ true) × (checkpointsOk checkpoints.now ≡ true) × (indexOk index.now ≡ true) }
+    requires commits_value { (commits_ok commits.now ≡ true) × (checkpoints_ok checkpoints.now ≡ true) × (index_ok index.now ≡ true) }
     requires commit { IsCommit c.now }
-    ensures { (vs : Table RulesVolume) → ((w : RulesVolume) → w.vid ≡ v.vid → fits (store volumeKey bytes w vs) ≡ true) → result ≡ code (successFound vs (logsIn commits.now checkpoints.now index.now) (volumeSays v) (commitIn c.now)) }
+    ensures { (vs : Table RulesVolume) → ((w : RulesVolume) → w.vid ≡ v.vid → fits (store volume_key bytes w vs) ≡ true) → result ≡ code (success_found vs (logs_in commits.now checkpoints.now index.now) (volume_says v) (commit_in c.now)) }
 {
     let pending = v.pending;
     let hash = v.pending_hash;
@@ -192,8 +192,8 @@ fn success_plan(
     vid: VolumeId,
     c: &[u8],
 ) -> Plan
-    requires { pushOk volumes.now commits.now checkpoints.now index.now ≡ true }
-    ensures { Planned volumes.now commits.now checkpoints.now index.now c.now (successIn (volumesIn volumes.now) (logsIn commits.now checkpoints.now index.now) vid c.now) result }
+    requires { push_ok volumes.now commits.now checkpoints.now index.now ≡ true }
+    ensures { Planned volumes.now commits.now checkpoints.now index.now c.now (success_in (volumes_in volumes.now) (logs_in commits.now checkpoints.now index.now) vid c.now) result }
 {
     let number = commit_number(c);
     if number != 0 {
@@ -219,11 +219,11 @@ pub fn success(
     vid: VolumeId,
     c: &[u8],
 ) -> u32
-    ensures value { result ≡ code (lent (pushOk volumes.old commits.old checkpoints.old index.old) (successIn (volumesIn volumes.old) (logsIn commits.old checkpoints.old index.old) vid c.now)) }
-    ensures volumes_after { volumes.new ≡ after volumeBytes (λ (r : Table RulesVolume × Logs). r.0) volumes.old (lent (pushOk volumes.old commits.old checkpoints.old index.old) (successIn (volumesIn volumes.old) (logsIn commits.old checkpoints.old index.old) vid c.now)) }
-    ensures commits_after { commits.new ≡ after commitBytes (λ (r : Table RulesVolume × Logs). r.1.commits) commits.old (lent (pushOk volumes.old commits.old checkpoints.old index.old) (successIn (volumesIn volumes.old) (logsIn commits.old checkpoints.old index.old) vid c.now)) }
-    ensures checkpoints_after { checkpoints.new ≡ after checkpointBytes (λ (r : Table RulesVolume × Logs). r.1.checkpoints) checkpoints.old (lent (pushOk volumes.old commits.old checkpoints.old index.old) (successIn (volumesIn volumes.old) (logsIn commits.old checkpoints.old index.old) vid c.now)) }
-    ensures index_after { index.new ≡ after entryBytes (λ (r : Table RulesVolume × Logs). r.1.index) index.old (lent (pushOk volumes.old commits.old checkpoints.old index.old) (successIn (volumesIn volumes.old) (logsIn commits.old checkpoints.old index.old) vid c.now)) }
+    ensures value { result ≡ code (lent (push_ok volumes.old commits.old checkpoints.old index.old) (success_in (volumes_in volumes.old) (logs_in commits.old checkpoints.old index.old) vid c.now)) }
+    ensures volumes_after { volumes.new ≡ after volume_bytes (λ (r : Table RulesVolume × Logs). r.0) volumes.old (lent (push_ok volumes.old commits.old checkpoints.old index.old) (success_in (volumes_in volumes.old) (logs_in commits.old checkpoints.old index.old) vid c.now)) }
+    ensures commits_after { commits.new ≡ after commit_bytes (λ (r : Table RulesVolume × Logs). r.1.commits) commits.old (lent (push_ok volumes.old commits.old checkpoints.old index.old) (success_in (volumes_in volumes.old) (logs_in commits.old checkpoints.old index.old) vid c.now)) }
+    ensures checkpoints_after { checkpoints.new ≡ after checkpoint_bytes (λ (r : Table RulesVolume × Logs). r.1.checkpoints) checkpoints.old (lent (push_ok volumes.old commits.old checkpoints.old index.old) (success_in (volumes_in volumes.old) (logs_in commits.old checkpoints.old index.old) vid c.now)) }
+    ensures index_after { index.new ≡ after entry_bytes (λ (r : Table RulesVolume × Logs). r.1.index) index.old (lent (push_ok volumes.old commits.old checkpoints.old index.old) (success_in (volumes_in volumes.old) (logs_in commits.old checkpoints.old index.old) vid c.now)) }
 {
     if !push_formed(volumes, commits, checkpoints, index) {
         return 20;
@@ -242,8 +242,8 @@ pub fn success(
 // What recover does with a volume v that stands at a place: nothing where nothing is pending; the push where the remote holds the commit with the pending hash (19); else
 // the pending commit is dropped, with 8 where a commit is stored there.
 fn recover_found(commits: &[u8], checkpoints: &[u8], index: &[u8], at: usize, v: Volume) -> Recovery
-    requires { (commitsOk commits.now ≡ true) × (checkpointsOk checkpoints.now ≡ true) × (indexOk index.now ≡ true) }
-    ensures { RecoversFound commits.now checkpoints.now index.now at (volumeSays v) result }
+    requires { (commits_ok commits.now ≡ true) × (checkpoints_ok checkpoints.now ≡ true) × (index_ok index.now ≡ true) }
+    ensures { RecoversFound commits.now checkpoints.now index.now at (volume_says v) result }
 {
     let pending = v.pending;
     let hash = v.pending_hash;
@@ -272,8 +272,8 @@ fn recover_plan(
     index: &[u8],
     vid: VolumeId,
 ) -> Recovery
-    requires { pushOk volumes.now commits.now checkpoints.now index.now ≡ true }
-    ensures { Recovers volumes.now commits.now checkpoints.now index.now (recoverRule (volumesIn volumes.now) (logsIn commits.now checkpoints.now index.now) vid) result }
+    requires { push_ok volumes.now commits.now checkpoints.now index.now ≡ true }
+    ensures { Recovers volumes.now commits.now checkpoints.now index.now (recoverRule (volumes_in volumes.now) (logs_in commits.now checkpoints.now index.now) vid) result }
 {
     let Spot::At(i) = find_volume(volumes, vid) else {
         return Recovery::Left(4);
@@ -291,11 +291,11 @@ pub fn recover(
     index: &mut [u8],
     vid: VolumeId,
 ) -> u32
-    ensures value { result ≡ number_of (lent (pushOk volumes.old commits.old checkpoints.old index.old) (done (recoverRule (volumesIn volumes.old) (logsIn commits.old checkpoints.old index.old) vid))) }
-    ensures volumes_after { volumes.new ≡ after volumeBytes (λ (r : ℕ × Table RulesVolume × Logs). r.1) volumes.old (lent (pushOk volumes.old commits.old checkpoints.old index.old) (done (recoverRule (volumesIn volumes.old) (logsIn commits.old checkpoints.old index.old) vid))) }
-    ensures commits_after { commits.new ≡ after commitBytes (λ (r : ℕ × Table RulesVolume × Logs). r.2.commits) commits.old (lent (pushOk volumes.old commits.old checkpoints.old index.old) (done (recoverRule (volumesIn volumes.old) (logsIn commits.old checkpoints.old index.old) vid))) }
-    ensures checkpoints_after { checkpoints.new ≡ after checkpointBytes (λ (r : ℕ × Table RulesVolume × Logs). r.2.checkpoints) checkpoints.old (lent (pushOk volumes.old commits.old checkpoints.old index.old) (done (recoverRule (volumesIn volumes.old) (logsIn commits.old checkpoints.old index.old) vid))) }
-    ensures index_after { index.new ≡ after entryBytes (λ (r : ℕ × Table RulesVolume × Logs). r.2.index) index.old (lent (pushOk volumes.old commits.old checkpoints.old index.old) (done (recoverRule (volumesIn volumes.old) (logsIn commits.old checkpoints.old index.old) vid))) }
+    ensures value { result ≡ number_of (lent (push_ok volumes.old commits.old checkpoints.old index.old) (done (recoverRule (volumes_in volumes.old) (logs_in commits.old checkpoints.old index.old) vid))) }
+    ensures volumes_after { volumes.new ≡ after volume_bytes (λ (r : ℕ × Table RulesVolume × Logs). r.1) volumes.old (lent (push_ok volumes.old commits.old checkpoints.old index.old) (done (recoverRule (volumes_in volumes.old) (logs_in commits.old checkpoints.old index.old) vid))) }
+    ensures commits_after { commits.new ≡ after commit_bytes (λ (r : ℕ × Table RulesVolume × Logs). r.2.commits) commits.old (lent (push_ok volumes.old commits.old checkpoints.old index.old) (done (recoverRule (volumes_in volumes.old) (logs_in commits.old checkpoints.old index.old) vid))) }
+    ensures checkpoints_after { checkpoints.new ≡ after checkpoint_bytes (λ (r : ℕ × Table RulesVolume × Logs). r.2.checkpoints) checkpoints.old (lent (push_ok volumes.old commits.old checkpoints.old index.old) (done (recoverRule (volumes_in volumes.old) (logs_in commits.old checkpoints.old index.old) vid))) }
+    ensures index_after { index.new ≡ after entry_bytes (λ (r : ℕ × Table RulesVolume × Logs). r.2.index) index.old (lent (push_ok volumes.old commits.old checkpoints.old index.old) (done (recoverRule (volumes_in volumes.old) (logs_in commits.old checkpoints.old index.old) vid))) }
 {
     if !push_formed(volumes, commits, checkpoints, index) {
         return 20;

@@ -1,20 +1,20 @@
 -- Joining two ranges by value. What lies past a count is zero, else 3; the rest is document 01's rule on what the ranges say.
 use Rattle.std.proofs.Math.Option.{Option}
 use Rattle.std.specs.Prelude.{◌&&◌, nat_le}
-use Rattle.std.specs.Answers.{Answer, ask, ◌>>=◌, ◌>>◌}
+use Rattle.basics.specs.Answers.{Answer, ask, ◌>>=◌, ◌>>◌}
 use Rattle.pageset.specs.Sets.{shown, normal}
 use Rattle.rules.specs.Pages.{union}
 use Rattle.rules.specs.Frames.{Part, join}
 use Rattle.commit.specs.declared.SegmentRange.{SegmentRange}
-use Rattle.commit.specs.Says.{rangeSays}
+use Rattle.commit.specs.Says.{range_says}
 
 -- two ranges as one: from the start of the left to the end of the right, with the pages of both
-abbrev pub bothOf : SegmentRange → SegmentRange → Part
-bothOf a b = record { sid = a.sid; start = a.start; end = b.end; pages = union (shown a.pages) (shown b.pages) }
+abbrev pub both_of : SegmentRange → SegmentRange → Part
+both_of a b = record { sid = a.sid; start = a.start; end = b.end; pages = union (shown a.pages) (shown b.pages) }
 
 -- a range's byte start is at most its end (2), what does not count of its set is zero (3)
-unfoldable pub joinRule : SegmentRange → SegmentRange → Answer (Option Part)
-joinRule a b = do
+unfoldable pub join_rule : SegmentRange → SegmentRange → Answer (Option Part)
+join_rule a b = do
   ask (nat_le a.start a.end && nat_le b.start b.end) 2
   ask (normal a.pages && normal b.pages) 3
-  join (rangeSays a) (rangeSays b)
+  join (range_says a) (range_says b)

@@ -2,12 +2,12 @@
 ghost use Rattle.std.specs.Prelude.{◌≡◌, ◌-◌, ◌≤◌, true};
 ghost use Rattle.std.proofs.Math.Option.{some};
 ghost use Rattle.pageset.specs.Sets.{normal};
-ghost use Rattle.rules.specs.Frames.{joinedPart};
+ghost use Rattle.rules.specs.Frames.{joined_part};
 ghost use Rattle.commit.specs.Says.{Tells};
-ghost use Rattle.ranges.specs.Rules.{joinRule, bothOf};
+ghost use Rattle.ranges.specs.Rules.{join_rule, both_of};
 
 use commit::{RangeAnswer, SegmentRange, found_range, no_range};
-use core::id;
+use basics::id;
 use pageset::{form, sets};
 
 // The number of bytes of a range that does not end before it starts.
@@ -22,7 +22,7 @@ pub fn size(r: SegmentRange) -> u64
 fn joined(left: SegmentRange, right: SegmentRange) -> RangeAnswer
     requires pages_value { normal left.pages ≡ true }
     requires pages_value_2 { normal right.pages ≡ true }
-    ensures { Tells result (joinedPart (some (bothOf left right))) }
+    ensures { Tells result (joined_part (some (both_of left right))) }
 {
     let a = left.pages;
     let b = right.pages;
@@ -43,7 +43,7 @@ fn joined(left: SegmentRange, right: SegmentRange) -> RangeAnswer
 
 // Two ranges joined: 2 for one that ends before it starts, 3 for a set that is not in form, none where they are of other segments or do not touch, then 22.
 pub fn join(left: SegmentRange, right: SegmentRange) -> RangeAnswer
-    ensures { Tells result (joinRule left right) }
+    ensures { Tells result (join_rule left right) }
 {
     if left.end < left.start {
         return no_range(2);

@@ -2,8 +2,8 @@
 // byte form of an entry.
 ghost use Rattle.std.specs.Prelude.{◌≡◌, ◌+◌, ◌≤◌, length};
 ghost use Rattle.octets.specs.Bytes.{part, put};
-ghost use Rattle.std.specs.Answers.{code};
-ghost use Rattle.resultlists.specs.Snapshots.{snapshotGiven};
+ghost use Rattle.basics.specs.Answers.{code};
+ghost use Rattle.resultlists.specs.Snapshots.{snapshot_given};
 
 use arguments::snapshots::{snapshot_arg, snapshot_ok};
 
@@ -18,7 +18,7 @@ pub fn copy(list: &mut [u8], at: usize, t: &[u8], from: usize, n: usize)
 
 // What is wrong with a snapshot in bytes: 1 for an LSN 0, 2 for a range that starts above its end, 3 for another size or form; else 0.
 pub fn snapshot_code(b: &[u8]) -> u32
-    ensures { result ≡ code (snapshotGiven b.now) }
+    ensures { result ≡ code (snapshot_given b.now) }
 {
     let s = snapshot_arg(b);
     if !s.has_lsns() {

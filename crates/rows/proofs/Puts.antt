@@ -4,84 +4,84 @@ use Rattle.std.proofs.Common.{◌≡◌, ℕ, ◌≤◌, min, Bool, true, ◌&&�
 use Prim.Native.Nat.{Ordering}
 use Rattle.octets.specs.Bytes.{AreBytes}
 use Rattle.rules.specs.Lists.{all}
-use Rattle.rules.specs.Tables.{Table, fits, put_all, formed, storeAll}
+use Rattle.rules.specs.Tables.{Table, fits, put_all, formed, store_all}
 use Rattle.rules.proofs.TableLaws as Rules
-use Rattle.rules.proofs.Rooms.{length-putAll}
-use Rattle.rules.proofs.RoomOfCalls.{putAll-append}
+use Rattle.rules.proofs.Rooms.{length_put_all}
+use Rattle.rules.proofs.RoomOfCalls.{put_all_append}
 use Rattle.layout.specs.Codecs.{Codec}
-use Rattle.layout.specs.Tables.{formedIn, tableIn, laidOver}
-use Rattle.rows.proofs.Rows.{Layout, formed-two, formed-up, formed-rules, laid_same, laid-after}
-use Rattle.rows.proofs.Stores.{storeAll-holds}
+use Rattle.layout.specs.Tables.{formed_in, table_in, laid_over}
+use Rattle.rows.proofs.Rows.{Layout, formed_two, formed_up, formed_rules, laid_same, laid_after}
+use Rattle.rows.proofs.Stores.{store_all_holds}
 
 module _ {R K : Type 0} {c : Codec R} {s k : ℕ} {form : R → Bool} {key : R → K} {order : K → K → Ordering} (L : Layout c s k form key order) where
   -- u is on the way from t to w, with the records xs to come
   pub record Storing (xs : List R) (t : List ℕ) (w : Table R) (u : List ℕ) : Type 0 where
     pub forms : all form xs ≡ true
-    pub good : formedIn c k form u ≡ true
-    pub coming : storeAll key order xs (tableIn c u) ≡ w
+    pub good : formed_in c k form u ≡ true
+    pub coming : store_all key order xs (table_in c u) ≡ w
     pub room : fits w ≡ true
-    pub covers : laidOver c w u ≡ laidOver c w t
+    pub covers : laid_over c w u ≡ laid_over c w t
 
   -- at the start, where there is room for all
-  pub storing-start : (xs : List R) (t : List ℕ) → all form xs ≡ true → formedIn c k form t ≡ true → fits (storeAll key order xs (tableIn c t)) ≡ true
-      → Storing xs t (storeAll key order xs (tableIn c t)) t
-  storing-start xs t f e h = record { forms = f; good = e; coming = refl; room = h; covers = refl }
+  pub storing_start : (xs : List R) (t : List ℕ) → all form xs ≡ true → formed_in c k form t ≡ true → fits (store_all key order xs (table_in c t)) ≡ true
+      → Storing xs t (store_all key order xs (table_in c t)) t
+  storing_start xs t f e h = record { forms = f; good = e; coming = refl; room = h; covers = refl }
 
   -- a run xs of the records to come, and ys behind it
   module _ (xs ys : List R) (t : List ℕ) (w : Table R) (u : List ℕ) (h : Storing (xs ++ ys) t w u) where
     both : all form xs && all form ys ≡ true
     both = sym (Rules.all_append form xs ys) ∙ h.forms
 
-    now-form : all form xs ≡ true
-    now-form = Rules.and-fst (all form xs) (all form ys) both
+    now_form : all form xs ≡ true
+    now_form = Rules.and_fst (all form xs) (all form ys) both
 
-    then-form : all form ys ≡ true
-    then-form = Rules.and-snd (all form xs) (all form ys) both
+    then_form : all form ys ≡ true
+    then_form = Rules.and_snd (all form xs) (all form ys) both
 
-    then-coming : storeAll key order ys (storeAll key order xs (tableIn c u)) ≡ w
-    then-coming = (λ i. record { room = (tableIn c u).room; rows = sym (putAll-append key order xs ys (tableIn c u).rows) i }) ∙ h.coming
+    then_coming : store_all key order ys (store_all key order xs (table_in c u)) ≡ w
+    then_coming = (λ i. record { room = (table_in c u).room; rows = sym (put_all_append key order xs ys (table_in c u).rows) i }) ∙ h.coming
 
     -- the table after the run has no more records than w
-    fewer : length (put_all key order xs (tableIn c u).rows) ≤ length w.rows
+    fewer : length (put_all key order xs (table_in c u).rows) ≤ length w.rows
     fewer =
-        omega (arith, ap (λ (v : Table R). length v.rows) then-coming, length-putAll key order L.lawful ys (put_all key order xs (tableIn c u).rows) (Rules.inOrder-putAll key order L.lawful xs (tableIn c u).rows (formed-up L u h.good)))
+        omega (arith, ap (λ (v : Table R). length v.rows) then_coming, length_put_all key order L.lawful ys (put_all key order xs (table_in c u).rows) (Rules.in_order_put_all key order L.lawful xs (table_in c u).rows (formed_up L u h.good)))
 
-    same-room : w.room ≡ (tableIn c u).room
-    same-room = sym (ap (λ (v : Table R). v.room) then-coming)
+    same_room : w.room ≡ (table_in c u).room
+    same_room = sym (ap (λ (v : Table R). v.room) then_coming)
 
     -- there is room for the run
-    pub many-fits : fits (storeAll key order xs (tableIn c u)) ≡ true
+    pub many_fits : fits (store_all key order xs (table_in c u)) ≡ true
     unfolding fits
-    many-fits =
-        le-leb (length (put_all key order xs (tableIn c u).rows)) (min (tableIn c u).room 65535)
-        (omega (arith, fewer, leb-true (length w.rows) (min w.room 65535) h.room, ap (λ (m : ℕ). min m 65535) same-room))
+    many_fits =
+        le-leb (length (put_all key order xs (table_in c u).rows)) (min (table_in c u).room 65535)
+        (omega (arith, fewer, leb-true (length w.rows) (min w.room 65535) h.room, ap (λ (m : ℕ). min m 65535) same_room))
 
-    formed-then : formed key order form (storeAll key order xs (tableIn c u)) ≡ true
-    formed-then = Rules.formed-storeAll key order L.lawful form xs (tableIn c u) now-form (formed-rules L u h.good) many-fits
+    formed_then : formed key order form (store_all key order xs (table_in c u)) ≡ true
+    formed_then = Rules.formed_store_all key order L.lawful form xs (table_in c u) now_form (formed_rules L u h.good) many_fits
 
-    formed-end : formed key order form w ≡ true
-    formed-end =
-        ap (formed key order form) (sym then-coming)
-        ∙ Rules.formed-storeAll key order L.lawful form ys (storeAll key order xs (tableIn c u)) then-form formed-then (ap fits then-coming ∙ h.room)
+    formed_end : formed key order form w ≡ true
+    formed_end =
+        ap (formed key order form) (sym then_coming)
+        ∙ Rules.formed_store_all key order L.lawful form ys (store_all key order xs (table_in c u)) then_form formed_then (ap fits then_coming ∙ h.room)
 
     -- and after it the others are to come
-    pub storing-many : (v : List ℕ) → v ≡ laidOver c (storeAll key order xs (tableIn c u)) u → Storing ys t w v
-    storing-many v d =
-        let q = storeAll-holds L u h.good xs now-form many-fits in
-        let two = formed-two L u h.good in
+    pub storing_many : (v : List ℕ) → v ≡ laid_over c (store_all key order xs (table_in c u)) u → Storing ys t w v
+    storing_many v d =
+        let q = store_all_holds L u h.good xs now_form many_fits in
+        let two = formed_two L u h.good in
         record {
-          forms = then-form;
-          good = ap (formedIn c k form) d ∙ q.again;
-          coming = ap (storeAll key order ys) (ap (tableIn c) d ∙ q.table) ∙ then-coming;
+          forms = then_form;
+          good = ap (formed_in c k form) d ∙ q.again;
+          coming = ap (store_all key order ys) (ap (table_in c) d ∙ q.table) ∙ then_coming;
           room = h.room;
-          covers = ap (laidOver c w) d ∙ laid-after L (storeAll key order xs (tableIn c u)) w u formed-then formed-end same-room two fewer ∙ h.covers;
+          covers = ap (laid_over c w) d ∙ laid_after L (store_all key order xs (table_in c u)) w u formed_then formed_end same_room two fewer ∙ h.covers;
         }
 
     -- the table that the bytes hold then
-    pub many-table : (v : List ℕ) → v ≡ laidOver c (storeAll key order xs (tableIn c u)) u → tableIn c v ≡ storeAll key order xs (tableIn c u)
-    many-table v d = ap (tableIn c) d ∙ (storeAll-holds L u h.good xs now-form many-fits).table
+    pub many_table : (v : List ℕ) → v ≡ laid_over c (store_all key order xs (table_in c u)) u → table_in c v ≡ store_all key order xs (table_in c u)
+    many_table v d = ap (table_in c) d ∙ (store_all_holds L u h.good xs now_form many_fits).table
 
   -- at the end the bytes are w laid over t
-  pub storing-end : (t : List ℕ) (w : Table R) (u : List ℕ) → Storing [] t w u → AreBytes u → u ≡ laidOver c w t
+  pub storing_end : (t : List ℕ) (w : Table R) (u : List ℕ) → Storing [] t w u → AreBytes u → u ≡ laid_over c w t
   unfolding put_all
-  storing-end t w u h b = sym (laid_same L u b h.good) ∙ ap (λ (v : Table R). laidOver c v u) h.coming ∙ h.covers
+  storing_end t w u h b = sym (laid_same L u b h.good) ∙ ap (λ (v : Table R). laid_over c v u) h.coming ∙ h.covers

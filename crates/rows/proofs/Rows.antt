@@ -6,25 +6,25 @@ use Prim.Native.Nat.{Ordering}
 use mathlib.Core.Bool.{and-false}
 use lib.ListN.{length-map}
 use Rattle.octets.specs.Bytes.{bytes_of, part, AreBytes}
-use Rattle.octets.specs.Order.{ordering, isLess}
+use Rattle.octets.specs.Order.{ordering, is_less}
 use Rattle.octets.specs.declared.Order.{Order}
 use Rattle.octets.specs.declared.Order.TheVariants.{Less, Equal, Greater}
 use Rattle.octets.proofs.Places as P
-use Rattle.std.specs.Orders.{is_lt}
-use Rattle.std.proofs.OrderLaws.{Lawful}
+use Rattle.basics.specs.Orders.{is_lt}
+use Rattle.basics.proofs.OrderLaws.{Lawful}
 use Rattle.rules.specs.Lists.{all}
-use Rattle.rules.specs.Tables.{Table, inOrder, capacity, fits, over, formed}
-use Rattle.rules.proofs.TableLaws.{cases, and-fst, and-snd, and_both, formed-parts}
-use Rattle.rules.proofs.Loops.{stepwise, stepwise-is}
+use Rattle.rules.specs.Tables.{Table, in_order, capacity, fits, over, formed}
+use Rattle.rules.proofs.TableLaws.{cases, and_fst, and_snd, and_both, formed_parts}
+use Rattle.rules.proofs.Loops.{stepwise, stepwise_is}
 use Rattle.table.specs.Records.{cmp, rises}
-use Rattle.table.specs.Table.{join, Each, count_of, cap_of, recs, laid, wellOrdered, holds}
+use Rattle.table.specs.Table.{join, Each, count_of, cap_of, recs, laid, well_ordered, holds}
 use Rattle.table.specs.Table as T
 use Rattle.table.proofs.Rows as TR
-use Rattle.table.proofs.Checks.{well-two, well-room}
+use Rattle.table.proofs.Checks.{well_two, well_room}
 use Rattle.table.proofs.Ends as TE
-use Rattle.layout.specs.Codecs.{Codec, spelled, inForm, Holds}
-use Rattle.layout.specs.Tables.{formedIn, tableIn, laidOver}
-use Rattle.layout.proofs.HoldLaws.{spelled_is, held-form}
+use Rattle.layout.specs.Codecs.{Codec, spelled, in_form, Holds}
+use Rattle.layout.specs.Tables.{formed_in, table_in, laid_over}
+use Rattle.layout.proofs.HoldLaws.{spelled_is, held_form}
 
 -- the records of a table: c has their bytes, s of them, the first k of which are the key; form is what document 01 asks of each
 pub record Layout {R K : Type 0} (c : Codec R) (s k : ℕ) (form : R → Bool) (key : R → K) (order : K → K → Ordering) : Type 0 where
@@ -39,17 +39,17 @@ pub record Layout {R K : Type 0} (c : Codec R) (s k : ℕ) (form : R → Bool) (
 
 module _ {R : Type 0} (c : Codec R) where
   -- rows that pass the test
-  spelled-rows : (rs : List (List ℕ)) → all (spelled c) rs ≡ true → map c.spell (map c.read rs) ≡ rs
+  spelled_rows : (rs : List (List ℕ)) → all (spelled c) rs ≡ true → map c.spell (map c.read rs) ≡ rs
   unfolding all
-  spelled-rows [] e = refl
-  spelled-rows (b ∷ rs) e =
-      ap₂ (λ (x : List ℕ) (l : List (List ℕ)). x ∷ l) (spelled_is c b (and-fst (spelled c b) (all (spelled c) rs) e)) (spelled-rows rs (and-snd (spelled c b) (all (spelled c) rs) e))
+  spelled_rows [] e = refl
+  spelled_rows (b ∷ rs) e =
+      ap₂ (λ (x : List ℕ) (l : List (List ℕ)). x ∷ l) (spelled_is c b (and_fst (spelled c b) (all (spelled c) rs) e)) (spelled_rows rs (and_snd (spelled c b) (all (spelled c) rs) e))
 
   -- the test of a row is that of its bytes and that of its record
-  inForm-rows : (form : R → Bool) (rs : List (List ℕ)) → all (inForm c form) rs ≡ (all (spelled c) rs && all form (map c.read rs))
-  unfolding all inForm
-  inForm-rows form [] = refl
-  inForm-rows form (b ∷ rs) = ap (λ (x : Bool). (spelled c b && form (c.read b)) && x) (inForm-rows form rs) ∙ mixed (spelled c b) (form (c.read b)) (all (spelled c) rs) (all form (map c.read rs))
+  in_form_rows : (form : R → Bool) (rs : List (List ℕ)) → all (in_form c form) rs ≡ (all (spelled c) rs && all form (map c.read rs))
+  unfolding all in_form
+  in_form_rows form [] = refl
+  in_form_rows form (b ∷ rs) = ap (λ (x : Bool). (spelled c b && form (c.read b)) && x) (in_form_rows form rs) ∙ mixed (spelled c b) (form (c.read b)) (all (spelled c) rs) (all form (map c.read rs))
     where
       mixed : (p q r s : Bool) → ((p && q) && (r && s)) ≡ ((p && r) && (q && s))
       mixed true true r s = refl
@@ -59,188 +59,188 @@ module _ {R : Type 0} (c : Codec R) where
 -- ---- two facts on bytes
 
 -- the count and the rows of a table
-front-is : (s : ℕ) (t : List ℕ) → AreBytes t → 2 + count_of t * s ≤ length t → part 0 (2 + count_of t * s) t ≡ bytes_of 2 (count_of t) ++ join (recs s t)
+front_is : (s : ℕ) (t : List ℕ) → AreBytes t → 2 + count_of t * s ≤ length t → part 0 (2 + count_of t * s) t ≡ bytes_of 2 (count_of t) ++ join (recs s t)
 unfolding count_of recs
-front-is s t b h =
-    P.part-add 0 2 (count_of t * s) t
-    ∙ ap₂ (λ (x y : List ℕ). x ++ y) (sym (P.bytes-at 0 2 t b (omega arith))) (sym (TR.join_runs s (count_of t) 2 t))
+front_is s t b h =
+    P.part_add 0 2 (count_of t * s) t
+    ∙ ap₂ (λ (x y : List ℕ). x ++ y) (sym (P.bytes_at 0 2 t b (omega arith))) (sym (TR.join_runs s (count_of t) 2 t))
 
-less-lt : (o : Order) → isLess o ≡ is_lt (ordering o)
-less-lt Less = refl
-less-lt Equal = refl
-less-lt Greater = refl
+less_lt : (o : Order) → is_less o ≡ is_lt (ordering o)
+less_lt Less = refl
+less_lt Equal = refl
+less_lt Greater = refl
 
 module _ {R K : Type 0} {c : Codec R} {s k : ℕ} {form : R → Bool} {key : R → K} {order : K → K → Ordering} (L : Layout c s k form key order) where
   -- ---- the table in bytes, its records s bytes each
 
   -- what the rules' table is
-  pub rows-read : (t : List ℕ) → (tableIn c t).rows ≡ map c.read (recs s t)
-  unfolding tableIn
-  rows-read t = ap (λ (n : ℕ). map c.read (recs n t)) L.wide
+  pub rows_read : (t : List ℕ) → (table_in c t).rows ≡ map c.read (recs s t)
+  unfolding table_in
+  rows_read t = ap (λ (n : ℕ). map c.read (recs n t)) L.wide
 
-  room-is : (t : List ℕ) → (tableIn c t).room ≡ (length t - 2) / s
-  unfolding tableIn
-  room-is t = ap (λ (n : ℕ). (length t - 2) / n) L.wide
+  room_is : (t : List ℕ) → (table_in c t).room ≡ (length t - 2) / s
+  unfolding table_in
+  room_is t = ap (λ (n : ℕ). (length t - 2) / n) L.wide
 
   -- and when it is one
-  pub formed-tests : (t : List ℕ) → formedIn c k form t ≡ (wellOrdered s k t && all (inForm c form) (recs s t))
-  unfolding formedIn
-  formed-tests t = ap (λ (n : ℕ). wellOrdered n k t && all (inForm c form) (recs n t)) L.wide
+  pub formed_tests : (t : List ℕ) → formed_in c k form t ≡ (well_ordered s k t && all (in_form c form) (recs s t))
+  unfolding formed_in
+  formed_tests t = ap (λ (n : ℕ). well_ordered n k t && all (in_form c form) (recs n t)) L.wide
 
-  pub length-rows : (t : List ℕ) → length (tableIn c t).rows ≡ count_of t
-  length-rows t = ap length (rows-read t) ∙ length-map (recs s t) c.read ∙ TR.length-recs s t
+  pub length_rows : (t : List ℕ) → length (table_in c t).rows ≡ count_of t
+  length_rows t = ap length (rows_read t) ∙ length-map (recs s t) c.read ∙ TR.length_recs s t
 
-  cap-is : (t : List ℕ) → cap_of s t ≡ capacity (tableIn c t)
+  cap_is : (t : List ℕ) → cap_of s t ≡ capacity (table_in c t)
   unfolding cap_of
-  cap-is t = ap (λ (n : ℕ). min n 65535) (sym (room-is t))
+  cap_is t = ap (λ (n : ℕ). min n 65535) (sym (room_is t))
 
   -- bytes can hold n records where n is within the capacity of their table
-  pub holds-is : (n : ℕ) (t : List ℕ) → holds s n t ≡ leb n (capacity (tableIn c t))
+  pub holds_is : (n : ℕ) (t : List ℕ) → holds s n t ≡ leb n (capacity (table_in c t))
   unfolding holds
-  holds-is n t = ap (leb n) (cap-is t)
+  holds_is n t = ap (leb n) (cap_is t)
 
   -- bytes can hold the rows of records where those fit in their table
-  pub fits-is : (l : List R) (t : List ℕ) → T.fits s (map c.spell l) t ≡ fits (over (tableIn c t) l)
+  pub fits_is : (l : List R) (t : List ℕ) → T.fits s (map c.spell l) t ≡ fits (over (table_in c t) l)
   unfolding fits
-  fits-is l t = holds-is (length (map c.spell l)) t ∙ ap (λ (n : ℕ). leb n (capacity (tableIn c t))) (length-map l c.spell)
+  fits_is l t = holds_is (length (map c.spell l)) t ∙ ap (λ (n : ℕ). leb n (capacity (table_in c t))) (length-map l c.spell)
 
   -- ---- the bytes of records in form
 
-  pub long-is : (x : R) → form x ≡ true → length (c.spell x) ≡ s
-  long-is x e = (L.holds x e).long ∙ L.wide
+  pub long_is : (x : R) → form x ≡ true → length (c.spell x) ≡ s
+  long_is x e = (L.holds x e).long ∙ L.wide
 
   -- what a batch of them must have
-  each-spelled : (l : List R) → all form l ≡ true → Each s (map c.spell l)
+  each_spelled : (l : List R) → all form l ≡ true → Each s (map c.spell l)
   unfolding all
-  each-spelled [] e = tt
-  each-spelled (x ∷ l) e = (long-is x (and-fst (form x) (all form l) e), each-spelled l (and-snd (form x) (all form l) e))
+  each_spelled [] e = tt
+  each_spelled (x ∷ l) e = (long_is x (and_fst (form x) (all form l) e), each_spelled l (and_snd (form x) (all form l) e))
 
-  pub read-spelled : (l : List R) → all form l ≡ true → map c.read (map c.spell l) ≡ l
+  pub read_spelled : (l : List R) → all form l ≡ true → map c.read (map c.spell l) ≡ l
   unfolding all
-  read-spelled [] e = refl
-  read-spelled (x ∷ l) e = ap₂ (λ (y : R) (m : List R). y ∷ m) (L.holds x (and-fst (form x) (all form l) e)).back (read-spelled l (and-snd (form x) (all form l) e))
+  read_spelled [] e = refl
+  read_spelled (x ∷ l) e = ap₂ (λ (y : R) (m : List R). y ∷ m) (L.holds x (and_fst (form x) (all form l) e)).back (read_spelled l (and_snd (form x) (all form l) e))
 
-  inForm-spelled : (l : List R) → all form l ≡ true → all (inForm c form) (map c.spell l) ≡ true
+  in_form_spelled : (l : List R) → all form l ≡ true → all (in_form c form) (map c.spell l) ≡ true
   unfolding all
-  inForm-spelled [] e = refl
-  inForm-spelled (x ∷ l) e =
-      let f = and-fst (form x) (all form l) e in
-      and_both (held-form c form (L.holds x f) f) (inForm-spelled l (and-snd (form x) (all form l) e))
+  in_form_spelled [] e = refl
+  in_form_spelled (x ∷ l) e =
+      let f = and_fst (form x) (all form l) e in
+      and_both (held_form c form (L.holds x f) f) (in_form_spelled l (and_snd (form x) (all form l) e))
 
-  rises-stepwise : (l : List R) → all form l ≡ true → rises k (map c.spell l) ≡ stepwise key order l
+  rises_stepwise : (l : List R) → all form l ≡ true → rises k (map c.spell l) ≡ stepwise key order l
   unfolding all
-  rises-stepwise [] e = refl
-  rises-stepwise (x ∷ []) e = refl
-  rises-stepwise (x ∷ y ∷ l) e =
-      let f = and-snd (form x) (all form (y ∷ l)) e in
+  rises_stepwise [] e = refl
+  rises_stepwise (x ∷ []) e = refl
+  rises_stepwise (x ∷ y ∷ l) e =
+      let f = and_snd (form x) (all form (y ∷ l)) e in
       ap₂ (λ (p q : Bool). p && q)
-      (less-lt (cmp k (c.spell x) (c.spell y)) ∙ ap is_lt (L.ordered x y (and-fst (form x) (all form (y ∷ l)) e) (and-fst (form y) (all form l) f)))
-      (rises-stepwise (y ∷ l) f)
+      (less_lt (cmp k (c.spell x) (c.spell y)) ∙ ap is_lt (L.ordered x y (and_fst (form x) (all form (y ∷ l)) e) (and_fst (form y) (all form l) f)))
+      (rises_stepwise (y ∷ l) f)
 
   -- the keys rise as bytes just where they do as the rules have them
-  rises-spelled : (l : List R) → all form l ≡ true → rises k (map c.spell l) ≡ inOrder key order l
-  rises-spelled l e = rises-stepwise l e ∙ stepwise-is key order L.lawful l
+  rises_spelled : (l : List R) → all form l ≡ true → rises k (map c.spell l) ≡ in_order key order l
+  rises_spelled l e = rises_stepwise l e ∙ stepwise_is key order L.lawful l
 
   -- ---- a formed table
 
-  module _ (t : List ℕ) (e : formedIn c k form t ≡ true) where
-    pub formed-well : wellOrdered s k t ≡ true
-    formed-well = and-fst (wellOrdered s k t) (all (inForm c form) (recs s t)) (sym (formed-tests t) ∙ e)
+  module _ (t : List ℕ) (e : formed_in c k form t ≡ true) where
+    pub formed_well : well_ordered s k t ≡ true
+    formed_well = and_fst (well_ordered s k t) (all (in_form c form) (recs s t)) (sym (formed_tests t) ∙ e)
 
-    pub formed-tested : all (inForm c form) (recs s t) ≡ true
-    formed-tested = and-snd (wellOrdered s k t) (all (inForm c form) (recs s t)) (sym (formed-tests t) ∙ e)
+    pub formed_tested : all (in_form c form) (recs s t) ≡ true
+    formed_tested = and_snd (well_ordered s k t) (all (in_form c form) (recs s t)) (sym (formed_tests t) ∙ e)
 
-    formed-both : all (spelled c) (recs s t) && all form (map c.read (recs s t)) ≡ true
-    formed-both = sym (inForm-rows c form (recs s t)) ∙ formed-tested
+    formed_both : all (spelled c) (recs s t) && all form (map c.read (recs s t)) ≡ true
+    formed_both = sym (in_form_rows c form (recs s t)) ∙ formed_tested
 
-    formed-spelled : all (spelled c) (recs s t) ≡ true
-    formed-spelled = and-fst (all (spelled c) (recs s t)) (all form (map c.read (recs s t))) formed-both
+    formed_spelled : all (spelled c) (recs s t) ≡ true
+    formed_spelled = and_fst (all (spelled c) (recs s t)) (all form (map c.read (recs s t))) formed_both
 
     -- its records are in form
-    pub formed-forms : all form (tableIn c t).rows ≡ true
-    formed-forms = ap (all form) (rows-read t) ∙ and-snd (all (spelled c) (recs s t)) (all form (map c.read (recs s t))) formed-both
+    pub formed_forms : all form (table_in c t).rows ≡ true
+    formed_forms = ap (all form) (rows_read t) ∙ and_snd (all (spelled c) (recs s t)) (all form (map c.read (recs s t))) formed_both
 
     -- its rows are their bytes
-    pub rows_are : recs s t ≡ map c.spell (tableIn c t).rows
-    rows_are = sym (ap (map c.spell) (rows-read t) ∙ spelled-rows c (recs s t) formed-spelled)
+    pub rows_are : recs s t ≡ map c.spell (table_in c t).rows
+    rows_are = sym (ap (map c.spell) (rows_read t) ∙ spelled_rows c (recs s t) formed_spelled)
 
-    pub formed-two : 2 ≤ length t
-    formed-two = well-two s k t formed-well
+    pub formed_two : 2 ≤ length t
+    formed_two = well_two s k t formed_well
 
   -- ---- formed bytes and the rules' table
 
-  fits_count : (t : List ℕ) → fits (tableIn c t) ≡ leb (count_of t) (cap_of s t)
+  fits_count : (t : List ℕ) → fits (table_in c t) ≡ leb (count_of t) (cap_of s t)
   unfolding fits
-  fits_count t = ap₂ leb (length-rows t) (sym (cap-is t))
+  fits_count t = ap₂ leb (length_rows t) (sym (cap_is t))
 
   -- where each row is spelled, bytes of a table are formed just where the rules' table is
-  pub formed-is : (t : List ℕ) → all (spelled c) (recs s t) ≡ true → 2 ≤ length t → formedIn c k form t ≡ formed key order form (tableIn c t)
-  unfolding formed wellOrdered
-  formed-is t p h =
+  pub formed_is : (t : List ℕ) → all (spelled c) (recs s t) ≡ true → 2 ≤ length t → formed_in c k form t ≡ formed key order form (table_in c t)
+  unfolding formed well_ordered
+  formed_is t p h =
       let rs : List (List ℕ) = recs s t in
       let l : List R = map c.read rs in
       cases (all form l)
-      (λ f. rw (formed-tests t, fits_count t, rows-read t, le-leb 2 (length t) h, inForm-rows c form rs, p, f, ← rises-spelled l f, spelled-rows c rs p))
-      (λ f. rw (formed-tests t, fits_count t, rows-read t, inForm-rows c form rs, p, f, and-false (wellOrdered s k t)) (sym (and-false (leb (count_of t) (cap_of s t) && inOrder key order l))))
+      (λ f. rw (formed_tests t, fits_count t, rows_read t, le-leb 2 (length t) h, in_form_rows c form rs, p, f, ← rises_spelled l f, spelled_rows c rs p))
+      (λ f. rw (formed_tests t, fits_count t, rows_read t, in_form_rows c form rs, p, f, and-false (well_ordered s k t)) (sym (and-false (leb (count_of t) (cap_of s t) && in_order key order l))))
 
   -- formed bytes hold a table that the rules take
-  pub formed-rules : (t : List ℕ) → formedIn c k form t ≡ true → formed key order form (tableIn c t) ≡ true
-  formed-rules t e = sym (formed-is t (formed-spelled t e) (formed-two t e)) ∙ e
+  pub formed_rules : (t : List ℕ) → formed_in c k form t ≡ true → formed key order form (table_in c t) ≡ true
+  formed_rules t e = sym (formed_is t (formed_spelled t e) (formed_two t e)) ∙ e
 
-  pub formed-up : (t : List ℕ) → formedIn c k form t ≡ true → inOrder key order (tableIn c t).rows ≡ true
-  formed-up t e = (formed-parts key order L.lawful form (tableIn c t) (formed-rules t e)).up
+  pub formed_up : (t : List ℕ) → formed_in c k form t ≡ true → in_order key order (table_in c t).rows ≡ true
+  formed_up t e = (formed_parts key order L.lawful form (table_in c t) (formed_rules t e)).up
 
   -- a table laid over the bytes that hold it
-  pub laid_same : (t : List ℕ) → AreBytes t → formedIn c k form t ≡ true → laidOver c (tableIn c t) t ≡ t
-  unfolding laidOver
-  laid_same t b e = ap (λ (rs : List (List ℕ)). laid rs t) (sym (rows_are t e)) ∙ TR.laid-self s t b (well-room s k t L.sized (formed-well t e))
+  pub laid_same : (t : List ℕ) → AreBytes t → formed_in c k form t ≡ true → laid_over c (table_in c t) t ≡ t
+  unfolding laid_over
+  laid_same t b e = ap (λ (rs : List (List ℕ)). laid rs t) (sym (rows_are t e)) ∙ TR.laid_self s t b (well_room s k t L.sized (formed_well t e))
 
   -- ---- a table of the rules laid over bytes
 
   -- u is t after w was laid over it: formed bytes that hold w
   pub record Laid (w : Table R) (t u : List ℕ) : Type 0 where
-    pub again : formedIn c k form u ≡ true
-    pub table : tableIn c u ≡ w
+    pub again : formed_in c k form u ≡ true
+    pub table : table_in c u ≡ w
     pub size : length u ≡ length t
 
-  room-laid : (w : Table R) (t : List ℕ) → w.room ≡ (tableIn c t).room → fits w ≡ true → T.fits s (map c.spell w.rows) t ≡ true
-  room-laid w t r f = fits-is w.rows t ∙ ap (λ (m : ℕ). fits (record { room = m; rows = w.rows })) (sym r) ∙ f
+  room_laid : (w : Table R) (t : List ℕ) → w.room ≡ (table_in c t).room → fits w ≡ true → T.fits s (map c.spell w.rows) t ≡ true
+  room_laid w t r f = fits_is w.rows t ∙ ap (λ (m : ℕ). fits (record { room = m; rows = w.rows })) (sym r) ∙ f
 
   -- a table that the rules take, laid over bytes with its room
-  pub laid-holds : (w : Table R) (t : List ℕ) → formed key order form w ≡ true → w.room ≡ (tableIn c t).room → 2 ≤ length t → Laid w t (laidOver c w t)
-  unfolding laidOver
-  laid-holds w t f r two =
-      let q = formed-parts key order L.lawful form w f in
+  pub laid_holds : (w : Table R) (t : List ℕ) → formed key order form w ≡ true → w.room ≡ (table_in c t).room → 2 ≤ length t → Laid w t (laid_over c w t)
+  unfolding laid_over
+  laid_holds w t f r two =
+      let q = formed_parts key order L.lawful form w f in
       let rs : List (List ℕ) = map c.spell w.rows in
-      let h = TE.laid-holds s k rs t L.sized two (each-spelled w.rows q.forms) (room-laid w t r q.fit) (rises-spelled w.rows q.forms ∙ q.up) in
+      let h = TE.laid_holds s k rs t L.sized two (each_spelled w.rows q.forms) (room_laid w t r q.fit) (rises_spelled w.rows q.forms ∙ q.up) in
       record {
-        again = formed-tests (laid rs t) ∙ and_both h.well (ap (all (inForm c form)) h.rows ∙ inForm-spelled w.rows q.forms);
+        again = formed_tests (laid rs t) ∙ and_both h.well (ap (all (in_form c form)) h.rows ∙ in_form_spelled w.rows q.forms);
         table =
             ap₂ (λ (m : ℕ) (l : List R). record { room = m; rows = l })
-            (room-is (laid rs t) ∙ ap (λ (m : ℕ). (m - 2) / s) h.size ∙ sym (room-is t) ∙ sym r)
-            (rows-read (laid rs t) ∙ ap (map c.read) h.rows ∙ read-spelled w.rows q.forms);
+            (room_is (laid rs t) ∙ ap (λ (m : ℕ). (m - 2) / s) h.size ∙ sym (room_is t) ∙ sym r)
+            (rows_read (laid rs t) ∙ ap (map c.read) h.rows ∙ read_spelled w.rows q.forms);
         size = h.size;
       }
 
   -- over a table with no more records: what that left is gone
-  pub laid-after : (v w : Table R) (t : List ℕ) → formed key order form v ≡ true → formed key order form w ≡ true → w.room ≡ (tableIn c t).room → 2 ≤ length t → length v.rows ≤ length w.rows
-      → laidOver c w (laidOver c v t) ≡ laidOver c w t
-  unfolding laidOver
-  laid-after v w t fv fw r two le =
-      let p = formed-parts key order L.lawful form v fv in
-      let q = formed-parts key order L.lawful form w fw in
+  pub laid_after : (v w : Table R) (t : List ℕ) → formed key order form v ≡ true → formed key order form w ≡ true → w.room ≡ (table_in c t).room → 2 ≤ length t → length v.rows ≤ length w.rows
+      → laid_over c w (laid_over c v t) ≡ laid_over c w t
+  unfolding laid_over
+  laid_after v w t fv fw r two le =
+      let p = formed_parts key order L.lawful form v fv in
+      let q = formed_parts key order L.lawful form w fw in
       let nv : length (map c.spell v.rows) ≡ length v.rows = length-map v.rows c.spell in
       let nw : length (map c.spell w.rows) ≡ length w.rows = length-map w.rows c.spell in
-      TR.laid-laid s (map c.spell v.rows) (map c.spell w.rows) t (each-spelled v.rows p.forms) (each-spelled w.rows q.forms) (omega arith)
-      (TR.cap-room s (length (map c.spell w.rows)) t L.sized two (TR.fits-cap s (length (map c.spell w.rows)) t (room-laid w t r q.fit)))
+      TR.laid_laid s (map c.spell v.rows) (map c.spell w.rows) t (each_spelled v.rows p.forms) (each_spelled w.rows q.forms) (omega arith)
+      (TR.cap_room s (length (map c.spell w.rows)) t L.sized two (TR.fits_cap s (length (map c.spell w.rows)) t (room_laid w t r q.fit)))
 
   -- two that hold the same records are equal on the count and the rows
-  pub fronts-same : (t u : List ℕ) → AreBytes t → AreBytes u → formedIn c k form t ≡ true → formedIn c k form u ≡ true → (tableIn c t).rows ≡ (tableIn c u).rows
+  pub fronts_same : (t u : List ℕ) → AreBytes t → AreBytes u → formed_in c k form t ≡ true → formed_in c k form u ≡ true → (table_in c t).rows ≡ (table_in c u).rows
       → part 0 (2 + count_of t * s) t ≡ part 0 (2 + count_of t * s) u
-  fronts-same t u bt bu e f g =
-      let n : count_of t ≡ count_of u = sym (length-rows t) ∙ ap length g ∙ length-rows u in
+  fronts_same t u bt bu e f g =
+      let n : count_of t ≡ count_of u = sym (length_rows t) ∙ ap length g ∙ length_rows u in
       let rs : recs s t ≡ recs s u = rows_are t e ∙ ap (map c.spell) g ∙ sym (rows_are u f) in
-      front-is s t bt (well-room s k t L.sized (formed-well t e))
+      front_is s t bt (well_room s k t L.sized (formed_well t e))
       ∙ ap₂ (λ (m : ℕ) (l : List (List ℕ)). bytes_of 2 m ++ join l) n rs
-      ∙ sym (front-is s u bu (well-room s k u L.sized (formed-well u f)))
+      ∙ sym (front_is s u bu (well_room s k u L.sized (formed_well u f)))
       ∙ ap (λ (m : ℕ). part 0 (2 + m * s) u) (sym n)

@@ -3,7 +3,7 @@ use Rattle.std.specs.Prelude.{◌≡◌, ℕ, zero, suc, ◌-◌, Bool, cond, no
 use Prim.Native.Nat.{Ordering}
 use Rattle.std.proofs.Math.Option.{Option, none, some}
 use Rattle.std.proofs.Math.Dec.{is_le}
-use Rattle.std.specs.Orders.{is_lt}
+use Rattle.basics.specs.Orders.{is_lt}
 use Rattle.rules.specs.Lists.{first}
 use Rattle.rules.specs.Tables.{get}
 use Rattle.table.specs.Records.{spot}
@@ -11,7 +11,7 @@ use Rattle.table.specs.Table.{recs}
 use Rattle.table.specs.declared.Spot.{Spot}
 use Rattle.table.specs.declared.Spot.TheVariants.{At, Gap}
 use Rattle.layout.specs.Codecs.{Codec}
-use Rattle.layout.specs.Tables.{tableIn}
+use Rattle.layout.specs.Tables.{table_in}
 
 -- record i, if there is one
 abbrev pub nth : {A : Type 0} → ℕ → List A → Option A
@@ -45,4 +45,4 @@ at_spot (Gap i) l = none
 -- the spot o of a key x, whose bytes are kb, in bytes t with rows of s bytes: the place of the key's bytes, and the record there is the one that the rules find
 pub record FoundAt {R K : Type 0} (key : R → K) (order : K → K → Ordering) (c : Codec R) (s k : ℕ) (kb : List ℕ) (x : K) (t : List ℕ) (o : Spot) : Type 0 where
   pub place : o ≡ spot k kb (recs s t)
-  pub says : at_spot o (tableIn c t).rows ≡ get key order x (tableIn c t).rows
+  pub says : at_spot o (table_in c t).rows ≡ get key order x (table_in c t).rows

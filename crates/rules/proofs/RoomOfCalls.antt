@@ -2,56 +2,56 @@
 -- not exceed capacity. Writing several commits is putting all their keys, all their checkpoints and all their entries, in that order.
 use Prim.Native.Nat.{Ordering}
 use Rattle.std.proofs.Common.{◌≡◌, Bool, true, false, ◌&&◌, ◌↔◌, List, [], ◌∷◌, ◌++◌, sym, refl, ap, ◌∙◌}
-use Rattle.std.proofs.OrderLaws.{logLsn-lawful, logPageLsn-lawful}
-use Rattle.std.specs.Orders.{logLsn, logPageLsn}
-use Rattle.std.specs.Answers.{refused}
-use Rattle.rules.specs.Records.{Commit, commitKey, checkpointKey, entryKey}
-use Rattle.rules.specs.Tables.{put_all, storeAll}
-use Rattle.rules.specs.Arguments.{commitLsns, commitLists}
-use Rattle.rules.specs.Write.{Logs, checkpointsOf, entriesOf, write, write_all, logsFormed, logsFit, writeCommit}
-use Rattle.rules.specs.Room.{hasRoom, each, logsRoom}
+use Rattle.basics.proofs.OrderLaws.{log_lsn_lawful, log_page_lsn_lawful}
+use Rattle.basics.specs.Orders.{log_lsn, log_page_lsn}
+use Rattle.basics.specs.Answers.{refused}
+use Rattle.rules.specs.Records.{Commit, commit_key, checkpoint_key, entry_key}
+use Rattle.rules.specs.Tables.{put_all, store_all}
+use Rattle.rules.specs.Arguments.{commit_lsns, commit_lists}
+use Rattle.rules.specs.Write.{Logs, checkpoints_of, entries_of, write, write_all, logs_formed, logs_fit, write_commit}
+use Rattle.rules.specs.Room.{has_room, each, logs_room}
 use Rattle.rules.proofs.TableLaws.{cases}
-use Rattle.rules.proofs.AnswerLaws.{refused-done}
-use Rattle.rules.proofs.Rooms.{fits-storeAll}
-use Rattle.rules.proofs.Write.{logs-rows}
+use Rattle.rules.proofs.AnswerLaws.{refused_done}
+use Rattle.rules.proofs.Rooms.{fits_store_all}
+use Rattle.rules.proofs.Write.{logs_rows}
 
 -- two runs put one after the other
-pub putAll-append : {R K : Type 0} (key : R → K) (order : K → K → Ordering) (xs ys l : List R) → put_all key order (xs ++ ys) l ≡ put_all key order ys (put_all key order xs l)
+pub put_all_append : {R K : Type 0} (key : R → K) (order : K → K → Ordering) (xs ys l : List R) → put_all key order (xs ++ ys) l ≡ put_all key order ys (put_all key order xs l)
 unfolding put_all
-putAll-append key order [] ys l = refl
-putAll-append key order (x ∷ xs) ys l = putAll-append key order xs ys _
+put_all_append key order [] ys l = refl
+put_all_append key order (x ∷ xs) ys l = put_all_append key order xs ys _
 
 -- several commits written: what comes to each table
-pub commits-all : (g : Logs) (cs : List Commit) → (write_all g cs).commits ≡ storeAll commitKey logLsn cs g.commits
+pub commits_all : (g : Logs) (cs : List Commit) → (write_all g cs).commits ≡ store_all commit_key log_lsn cs g.commits
 unfolding write_all write put_all
-commits-all g [] = refl
-commits-all g (c ∷ cs) = commits-all (write g c) cs
+commits_all g [] = refl
+commits_all g (c ∷ cs) = commits_all (write g c) cs
 
-pub checkpoints-all : (g : Logs) (cs : List Commit) → (write_all g cs).checkpoints ≡ storeAll checkpointKey logLsn (each checkpointsOf cs) g.checkpoints
+pub checkpoints_all : (g : Logs) (cs : List Commit) → (write_all g cs).checkpoints ≡ store_all checkpoint_key log_lsn (each checkpoints_of cs) g.checkpoints
 unfolding write_all write put_all each
-checkpoints-all g [] = refl
-checkpoints-all g (c ∷ cs) =
-    checkpoints-all (write g c) cs ∙ (λ i. record { room = g.checkpoints.room; rows = sym (putAll-append checkpointKey logLsn (checkpointsOf c) (each checkpointsOf cs) g.checkpoints.rows) i })
+checkpoints_all g [] = refl
+checkpoints_all g (c ∷ cs) =
+    checkpoints_all (write g c) cs ∙ (λ i. record { room = g.checkpoints.room; rows = sym (put_all_append checkpoint_key log_lsn (checkpoints_of c) (each checkpoints_of cs) g.checkpoints.rows) i })
 
-pub index-all : (g : Logs) (cs : List Commit) → (write_all g cs).index ≡ storeAll entryKey logPageLsn (each entriesOf cs) g.index
+pub index_all : (g : Logs) (cs : List Commit) → (write_all g cs).index ≡ store_all entry_key log_page_lsn (each entries_of cs) g.index
 unfolding write_all write put_all each
-index-all g [] = refl
-index-all g (c ∷ cs) = index-all (write g c) cs ∙ (λ i. record { room = g.index.room; rows = sym (putAll-append entryKey logPageLsn (entriesOf c) (each entriesOf cs) g.index.rows) i })
+index_all g [] = refl
+index_all g (c ∷ cs) = index_all (write g c) cs ∙ (λ i. record { room = g.index.room; rows = sym (put_all_append entry_key log_page_lsn (entries_of c) (each entries_of cs) g.index.rows) i })
 
 -- the law of room for the calls that store commits
-pub logs-room : (g : Logs) (cs : List Commit) → logsFormed g ≡ true → logsFit (write_all g cs) ≡ logsRoom g cs
-unfolding logsFit logsRoom
-logs-room g cs f =
-    let k = logs-rows g f in
-    rw (commits-all g cs, checkpoints-all g cs, index-all g cs, fits-storeAll commitKey logLsn logLsn-lawful cs g.commits k.commits.up, fits-storeAll checkpointKey logLsn logLsn-lawful (each checkpointsOf cs) g.checkpoints k.checkpoints.up)
-    (ap (λ (b : Bool). hasRoom commitKey logLsn g.commits cs && hasRoom checkpointKey logLsn g.checkpoints (each checkpointsOf cs) && b) (fits-storeAll entryKey logPageLsn logPageLsn-lawful (each entriesOf cs) g.index k.index.up))
+pub logs_room_lem : (g : Logs) (cs : List Commit) → logs_formed g ≡ true → logs_fit (write_all g cs) ≡ logs_room g cs
+unfolding logs_fit logs_room
+logs_room_lem g cs f =
+    let k = logs_rows g f in
+    rw (commits_all g cs, checkpoints_all g cs, index_all g cs, fits_store_all commit_key log_lsn log_lsn_lawful cs g.commits k.commits.up, fits_store_all checkpoint_key log_lsn log_lsn_lawful (each checkpoints_of cs) g.checkpoints k.checkpoints.up)
+    (ap (λ (b : Bool). has_room commit_key log_lsn g.commits cs && has_room checkpoint_key log_lsn g.checkpoints (each checkpoints_of cs) && b) (fits_store_all entry_key log_page_lsn log_page_lsn_lawful (each entries_of cs) g.index k.index.up))
 
-write-room : (g : Logs) (c : Commit) → logsFormed g ≡ true → logsFit (write g c) ≡ logsRoom g (c ∷ [])
+write_room : (g : Logs) (c : Commit) → logs_formed g ≡ true → logs_fit (write g c) ≡ logs_room g (c ∷ [])
 unfolding write_all
-write-room g c f = logs-room g (c ∷ []) f
+write_room g c f = logs_room_lem g (c ∷ []) f
 
 -- write a commit: 19 exactly if the earlier checks pass and for some table records held plus new keys exceed capacity
-pub write-19 : (g : Logs) (c : Commit) → logsFormed g ≡ true → commitLsns c ≡ true → commitLists c ≡ true → (writeCommit g c ≡ refused 19) ↔ (logsRoom g (c ∷ []) ≡ false)
-unfolding writeCommit
-write-19 g c f one three =
-    (λ e. cases (logsRoom g (c ∷ [])) (λ q. refused-done (sym (rw (f, one, three, write-room g c f ∙ q) at e))) (λ q. q), λ q. rw (f, one, three, write-room g c f ∙ q))
+pub write_19 : (g : Logs) (c : Commit) → logs_formed g ≡ true → commit_lsns c ≡ true → commit_lists c ≡ true → (write_commit g c ≡ refused 19) ↔ (logs_room g (c ∷ []) ≡ false)
+unfolding write_commit
+write_19 g c f one three =
+    (λ e. cases (logs_room g (c ∷ [])) (λ q. refused_done (sym (rw (f, one, three, write_room g c f ∙ q) at e))) (λ q. q), λ q. rw (f, one, three, write_room g c f ∙ q))

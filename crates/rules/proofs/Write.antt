@@ -6,126 +6,126 @@ use Prim.Native.Nat.{compare, Ordering}
 use mathlib.Core.Option.{Option, none, some}
 use mathlib.Core.Bool.{and-true, and-false}
 use lib.Dec.{compare_is_eq}
-use Rattle.std.specs.Int.{counts, lastLsn}
-use Rattle.pageset.specs.Sets.{normalForm}
-use Rattle.std.specs.Orders.{next, bytes, logLsn, logPageLsn}
+use Rattle.basics.specs.Numbers.{counts, last_lsn}
+use Rattle.pageset.specs.Sets.{normal_form}
+use Rattle.basics.specs.Orders.{next, bytes, log_lsn, log_page_lsn}
 use Rattle.rules.specs.Lists.{any, all, given}
-use Rattle.rules.specs.Records.{Id, Segment, Commit, Entry, commitKey, checkpointKey, entryKey}
-use Rattle.rules.specs.Pages.{pagesIn}
-use Rattle.rules.specs.Forms.{lsnForm, pageForm, countForm, idForm, hashForm, segmentForm, listsForm, commitForm, checkpointForm, entryForm}
-use Rattle.rules.specs.Tables.{Table, getCommit}
-use Rattle.rules.specs.Arguments.{commitLsns, commitLists}
-use Rattle.rules.specs.Write.{Logs, pagesOf, entriesOf, checkpointsOf, write, write_all, logsFormed, logsFit}
-use Rattle.rules.specs.Calls.{commitTyped, lsnTyped}
-use Rattle.rules.specs.Demand.{commitHolds, holdsAt, Exact, NoPageLost}
-use Rattle.std.proofs.OrderLaws.{equal, logLsn-lawful, logPageLsn-lawful}
-use Rattle.rules.proofs.TableLaws.{cases, clash, and-fst, and-snd, and_both, eq_of, any-map, any-and, all_map, all-weaken, get-put, some-putAll, Rows, rows-put, rows-putAll, formed-rows, rows-formed}
-use Rattle.rules.proofs.PageLaws.{pages-holds, pages-form, empty-form}
-use Rattle.rules.proofs.Walk.{setRises}
+use Rattle.rules.specs.Records.{Id, Segment, Commit, Entry, commit_key, checkpoint_key, entry_key}
+use Rattle.rules.specs.Pages.{pages_in}
+use Rattle.rules.specs.Forms.{lsn_form, page_form, count_form, id_form, hash_form, segment_form, lists_form, commit_form, checkpoint_form, entry_form}
+use Rattle.rules.specs.Tables.{Table, get_commit}
+use Rattle.rules.specs.Arguments.{commit_lsns, commit_lists}
+use Rattle.rules.specs.Write.{Logs, pages_of, entries_of, checkpoints_of, write, write_all, logs_formed, logs_fit}
+use Rattle.rules.specs.Calls.{commit_typed, lsn_typed}
+use Rattle.rules.specs.Demand.{commit_holds, holds_at, Exact, NoPageLost}
+use Rattle.basics.proofs.OrderLaws.{equal, log_lsn_lawful, log_page_lsn_lawful}
+use Rattle.rules.proofs.TableLaws.{cases, clash, and_fst, and_snd, and_both, eq_of, any_map, any_and, all_map, all_weaken, get_put, some_put_all, Rows, rows_put_lem, rows_put_all, formed_rows, rows_formed}
+use Rattle.rules.proofs.PageLaws.{pages_holds, pages_form, empty_form}
+use Rattle.rules.proofs.Walk.{set_rises}
 
 -- ---- forms
 
 -- the pages of a commit in form are a set in normal form
-pub set-form : (c : Commit) → commitForm c ≡ true → normalForm (pagesOf c.segment) ≡ true
-unfolding commitForm segmentForm listsForm
-set-form c e = go c.segment (search (and-fst, and-snd))
+pub set_form : (c : Commit) → commit_form c ≡ true → normal_form (pages_of c.segment) ≡ true
+unfolding commit_form segment_form lists_form
+set_form c e = go c.segment (search (and_fst, and_snd))
   where
-    go : (o : Option Segment) → given segmentForm o ≡ true → normalForm (pagesOf o) ≡ true
-    go none h = empty-form
-    go (some s) h = search (and-fst, and-snd)
+    go : (o : Option Segment) → given segment_form o ≡ true → normal_form (pages_of o) ≡ true
+    go none h = empty_form
+    go (some s) h = search (and_fst, and_snd)
 
 -- what it adds to the index and the checkpoints is in form
-pub entries-form : (c : Commit) → commitForm c ≡ true → all entryForm (entriesOf c) ≡ true
-unfolding commitForm entryForm
-entries-form c e =
-    let i : idForm c.log ≡ true = search (and-fst, and-snd) in
-    let l : lsnForm c.lsn ≡ true = search (and-fst, and-snd) in
-    all_map entryForm (λ (p : ℕ). record { log = c.log; page = p; lsn = c.lsn }) (pagesIn (pagesOf c.segment))
-    ∙ all-weaken pageForm _ (pagesIn (pagesOf c.segment)) (λ p h. and_both (and_both i h) l) (pages-form (pagesOf c.segment) (set-form c e))
+pub entries_form : (c : Commit) → commit_form c ≡ true → all entry_form (entries_of c) ≡ true
+unfolding commit_form entry_form
+entries_form c e =
+    let i : id_form c.log ≡ true = search (and_fst, and_snd) in
+    let l : lsn_form c.lsn ≡ true = search (and_fst, and_snd) in
+    all_map entry_form (λ (p : ℕ). record { log = c.log; page = p; lsn = c.lsn }) (pages_in (pages_of c.segment))
+    ∙ all_weaken page_form _ (pages_in (pages_of c.segment)) (λ p h. and_both (and_both i h) l) (pages_form (pages_of c.segment) (set_form c e))
 
-pub checkpoints-form : (c : Commit) → commitForm c ≡ true → all checkpointForm (checkpointsOf c) ≡ true
-unfolding commitForm checkpointForm
-checkpoints-form c e =
-    let i : idForm c.log ≡ true = search (and-fst, and-snd) in
-    all_map checkpointForm (λ (n : ℕ). record { log = c.log; lsn = n }) c.checkpoints
-    ∙ all-weaken lsnForm _ c.checkpoints (λ p h. and_both i h) (search (and-fst, and-snd))
+pub checkpoints_form : (c : Commit) → commit_form c ≡ true → all checkpoint_form (checkpoints_of c) ≡ true
+unfolding commit_form checkpoint_form
+checkpoints_form c e =
+    let i : id_form c.log ≡ true = search (and_fst, and_snd) in
+    all_map checkpoint_form (λ (n : ℕ). record { log = c.log; lsn = n }) c.checkpoints
+    ∙ all_weaken lsn_form _ c.checkpoints (λ p h. and_both i h) (search (and_fst, and_snd))
 
 -- the lists of a commit in form are in form
-pub form-lists : (c : Commit) → commitForm c ≡ true → commitLists c ≡ true
-unfolding commitForm commitLists segmentForm
-form-lists c e =
-    let n : leb (length c.checkpoints) 8 ≡ true = search (and-fst, and-snd) in
-    and_both (go c.segment (search (and-fst, and-snd))) n
+pub form_lists : (c : Commit) → commit_form c ≡ true → commit_lists c ≡ true
+unfolding commit_form commit_lists segment_form
+form_lists c e =
+    let n : leb (length c.checkpoints) 8 ≡ true = search (and_fst, and_snd) in
+    and_both (go c.segment (search (and_fst, and_snd))) n
   where
-    go : (o : Option Segment) → given segmentForm o ≡ true → given listsForm o ≡ true
+    go : (o : Option Segment) → given segment_form o ≡ true → given lists_form o ≡ true
     go none h = refl
-    go (some s) h = search (and-fst, and-snd)
+    go (some s) h = search (and_fst, and_snd)
 
 -- the three tables' rows, in order and in form
 pub record LogRows (g : Logs) : Type 0 where
-  pub commits : Rows commitKey logLsn logLsn-lawful commitForm g.commits.rows
-  pub checkpoints : Rows checkpointKey logLsn logLsn-lawful checkpointForm g.checkpoints.rows
-  pub index : Rows entryKey logPageLsn logPageLsn-lawful entryForm g.index.rows
+  pub commits : Rows commit_key log_lsn log_lsn_lawful commit_form g.commits.rows
+  pub checkpoints : Rows checkpoint_key log_lsn log_lsn_lawful checkpoint_form g.checkpoints.rows
+  pub index : Rows entry_key log_page_lsn log_page_lsn_lawful entry_form g.index.rows
 
-pub logs-rows : (g : Logs) → logsFormed g ≡ true → LogRows g
-unfolding logsFormed
-logs-rows g e = record {
-  commits = formed-rows commitKey logLsn logLsn-lawful commitForm g.commits (search (and-fst, and-snd));
-  checkpoints = formed-rows checkpointKey logLsn logLsn-lawful checkpointForm g.checkpoints (search (and-fst, and-snd));
-  index = formed-rows entryKey logPageLsn logPageLsn-lawful entryForm g.index (search (and-fst, and-snd));
+pub logs_rows : (g : Logs) → logs_formed g ≡ true → LogRows g
+unfolding logs_formed
+logs_rows g e = record {
+  commits = formed_rows commit_key log_lsn log_lsn_lawful commit_form g.commits (search (and_fst, and_snd));
+  checkpoints = formed_rows checkpoint_key log_lsn log_lsn_lawful checkpoint_form g.checkpoints (search (and_fst, and_snd));
+  index = formed_rows entry_key log_page_lsn log_page_lsn_lawful entry_form g.index (search (and_fst, and_snd));
 }
 
-pub rows-logs : (g : Logs) → logsFit g ≡ true → LogRows g → logsFormed g ≡ true
-unfolding logsFormed logsFit
-rows-logs g f k =
+pub rows_logs : (g : Logs) → logs_fit g ≡ true → LogRows g → logs_formed g ≡ true
+unfolding logs_formed logs_fit
+rows_logs g f k =
     and_both
-    (and_both (rows-formed commitKey logLsn logLsn-lawful commitForm g.commits (search (and-fst, and-snd)) k.commits)
-    (rows-formed checkpointKey logLsn logLsn-lawful checkpointForm g.checkpoints (search (and-fst, and-snd)) k.checkpoints))
-    (rows-formed entryKey logPageLsn logPageLsn-lawful entryForm g.index (search (and-fst, and-snd)) k.index)
+    (and_both (rows_formed commit_key log_lsn log_lsn_lawful commit_form g.commits (search (and_fst, and_snd)) k.commits)
+    (rows_formed checkpoint_key log_lsn log_lsn_lawful checkpoint_form g.checkpoints (search (and_fst, and_snd)) k.checkpoints))
+    (rows_formed entry_key log_page_lsn log_page_lsn_lawful entry_form g.index (search (and_fst, and_snd)) k.index)
 
-pub write-rows : (g : Logs) (c : Commit) → commitForm c ≡ true → LogRows g → LogRows (write g c)
+pub write_rows : (g : Logs) (c : Commit) → commit_form c ≡ true → LogRows g → LogRows (write g c)
 unfolding write
-write-rows g c h k = record {
-  commits = rows-put commitKey logLsn logLsn-lawful commitForm c g.commits.rows h k.commits;
-  checkpoints = rows-putAll checkpointKey logLsn logLsn-lawful checkpointForm (checkpointsOf c) g.checkpoints.rows (checkpoints-form c h) k.checkpoints;
-  index = rows-putAll entryKey logPageLsn logPageLsn-lawful entryForm (entriesOf c) g.index.rows (entries-form c h) k.index;
+write_rows g c h k = record {
+  commits = rows_put_lem commit_key log_lsn log_lsn_lawful commit_form c g.commits.rows h k.commits;
+  checkpoints = rows_put_all checkpoint_key log_lsn log_lsn_lawful checkpoint_form (checkpoints_of c) g.checkpoints.rows (checkpoints_form c h) k.checkpoints;
+  index = rows_put_all entry_key log_page_lsn log_page_lsn_lawful entry_form (entries_of c) g.index.rows (entries_form c h) k.index;
 }
 
-pub writeAll-rows : (g : Logs) (cs : List Commit) → all commitForm cs ≡ true → LogRows g → LogRows (write_all g cs)
+pub write_all_rows : (g : Logs) (cs : List Commit) → all commit_form cs ≡ true → LogRows g → LogRows (write_all g cs)
 unfolding write_all all
-writeAll-rows g [] h k = k
-writeAll-rows g (c ∷ cs) h k = writeAll-rows (write g c) cs (and-snd (commitForm c) (all commitForm cs) h) (write-rows g c (and-fst (commitForm c) (all commitForm cs) h) k)
+write_all_rows g [] h k = k
+write_all_rows g (c ∷ cs) h k = write_all_rows (write g c) cs (and_snd (commit_form c) (all commit_form cs) h) (write_rows g c (and_fst (commit_form c) (all commit_form cs) h) k)
 
 -- a commit argument that passes 1 and 3 has its form
 all_both : {A : Type 0} (f g h : A → Bool) (l : List A) → ((x : A) → f x ≡ true → g x ≡ true → h x ≡ true) → all f l ≡ true → all g l ≡ true → all h l ≡ true
 unfolding all
 all_both f g h [] k p q = refl
 all_both f g h (x ∷ l) k p q =
-    and_both (k x (and-fst (f x) (all f l) p) (and-fst (g x) (all g l) q)) (all_both f g h l k (and-snd (f x) (all f l) p) (and-snd (g x) (all g l) q))
+    and_both (k x (and_fst (f x) (all f l) p) (and_fst (g x) (all g l) q)) (all_both f g h l k (and_snd (f x) (all f l) p) (and_snd (g x) (all g l) q))
 
-seg-form : (s : Segment) → idForm s.sid ≡ true → listsForm s ≡ true → segmentForm s ≡ true
-unfolding segmentForm
-seg-form s a b = and_both a b
+seg_form : (s : Segment) → id_form s.sid ≡ true → lists_form s ≡ true → segment_form s ≡ true
+unfolding segment_form
+seg_form s a b = and_both a b
 
-pub written-form : (c : Commit) → commitTyped c ≡ true → commitLsns c ≡ true → commitLists c ≡ true → commitForm c ≡ true
-unfolding commitLsns commitLists commitForm lsnForm
-written-form c t one three =
-    let n : leb (length c.checkpoints) 8 ≡ true = search (and-fst, and-snd) in
-    let k : all counts (take 8 c.checkpoints) ≡ true = search (and-fst, and-snd) in
+pub written_form : (c : Commit) → commit_typed c ≡ true → commit_lsns c ≡ true → commit_lists c ≡ true → commit_form c ≡ true
+unfolding commit_lsns commit_lists commit_form lsn_form
+written_form c t one three =
+    let n : leb (length c.checkpoints) 8 ≡ true = search (and_fst, and_snd) in
+    let k : all counts (take 8 c.checkpoints) ≡ true = search (and_fst, and_snd) in
     let k8 : all counts c.checkpoints ≡ true = rw (take_all 8 c.checkpoints (leb-true (length c.checkpoints) 8 n)) at k in
-    let i : idForm c.log ≡ true = search (and-fst, and-snd) in
-    let a : counts c.lsn ≡ true = search (and-fst, and-snd) in
-    let b : leb c.lsn lastLsn ≡ true = search (and-fst, and-snd) in
-    let m : countForm c.count ≡ true = search (and-fst, and-snd) in
-    let d : given hashForm c.hash ≡ true = search (and-fst, and-snd) in
-    let x : given (λ (s : Segment). idForm s.sid) c.segment ≡ true = search (and-fst, and-snd) in
-    let y : given listsForm c.segment ≡ true = search (and-fst, and-snd) in
-    let z : all lsnTyped c.checkpoints ≡ true = search (and-fst, and-snd) in
-    and_both (and_both (and_both (and_both (and_both (and_both i (and_both a b)) m) d) (seg c.segment x y)) n) (all_both counts lsnTyped lsnForm c.checkpoints (λ x p q. and_both p q) k8 z)
+    let i : id_form c.log ≡ true = search (and_fst, and_snd) in
+    let a : counts c.lsn ≡ true = search (and_fst, and_snd) in
+    let b : leb c.lsn last_lsn ≡ true = search (and_fst, and_snd) in
+    let m : count_form c.count ≡ true = search (and_fst, and_snd) in
+    let d : given hash_form c.hash ≡ true = search (and_fst, and_snd) in
+    let x : given (λ (s : Segment). id_form s.sid) c.segment ≡ true = search (and_fst, and_snd) in
+    let y : given lists_form c.segment ≡ true = search (and_fst, and_snd) in
+    let z : all lsn_typed c.checkpoints ≡ true = search (and_fst, and_snd) in
+    and_both (and_both (and_both (and_both (and_both (and_both i (and_both a b)) m) d) (seg c.segment x y)) n) (all_both counts lsn_typed lsn_form c.checkpoints (λ x p q. and_both p q) k8 z)
   where
-    seg : (o : Option Segment) → given (λ (s : Segment). idForm s.sid) o ≡ true → given listsForm o ≡ true → given segmentForm o ≡ true
+    seg : (o : Option Segment) → given (λ (s : Segment). id_form s.sid) o ≡ true → given lists_form o ≡ true → given segment_form o ≡ true
     seg none a b = refl
-    seg (some s) a b = seg-form s a b
+    seg (some s) a b = seg_form s a b
 
 -- ---- the exact index
 
@@ -137,49 +137,49 @@ parts Ordering.eq Ordering.gt c = sym (and-false (compare_is_eq c))
 parts Ordering.gt b c = refl
 
 -- the entries of a commit: of its log and LSN, and of its pages
-entries : (c : Commit) (log : Id) (p lsn : ℕ) → setRises c ≡ true
-    → any (λ e. compare_is_eq (logPageLsn (log, (p, lsn)) (entryKey e))) (entriesOf c) ≡ compare_is_eq (logLsn (log, lsn) (commitKey c)) && commitHolds p c
-unfolding commitHolds
+entries : (c : Commit) (log : Id) (p lsn : ℕ) → set_rises c ≡ true
+    → any (λ e. compare_is_eq (log_page_lsn (log, (p, lsn)) (entry_key e))) (entries_of c) ≡ compare_is_eq (log_lsn (log, lsn) (commit_key c)) && commit_holds p c
+unfolding commit_holds
 entries c log p lsn up =
-    let k = compare_is_eq (logLsn (log, lsn) (commitKey c)) in
-    let ps = pagesIn (pagesOf c.segment) in
-    any-map (λ (e : Entry). compare_is_eq (logPageLsn (log, (p, lsn)) (entryKey e))) (λ (q : ℕ). record { log = c.log; page = q; lsn = c.lsn }) ps
-    ∙ any-and k (λ q. eqb p q) (λ q. compare_is_eq (logPageLsn (log, (p, lsn)) (c.log, (q, c.lsn)))) ps (λ q. parts (bytes log c.log) (compare p q) (compare c.lsn lsn))
-    ∙ ap (λ (b : Bool). k && b) (pages-holds 0 (pagesOf c.segment) p up)
+    let k = compare_is_eq (log_lsn (log, lsn) (commit_key c)) in
+    let ps = pages_in (pages_of c.segment) in
+    any_map (λ (e : Entry). compare_is_eq (log_page_lsn (log, (p, lsn)) (entry_key e))) (λ (q : ℕ). record { log = c.log; page = q; lsn = c.lsn }) ps
+    ∙ any_and k (λ q. eqb p q) (λ q. compare_is_eq (log_page_lsn (log, (p, lsn)) (c.log, (q, c.lsn)))) ps (λ q. parts (bytes log c.log) (compare p q) (compare c.lsn lsn))
+    ∙ ap (λ (b : Bool). k && b) (pages_holds 0 (pages_of c.segment) p up)
 
 -- where the commit lacks a page, the one that it replaces lacks it too
 abbrev Keeps : Table Commit → Commit → Type 0
-Keeps cs c = (p : ℕ) → commitHolds p c ≡ false → holdsAt p (getCommit cs c.log c.lsn) ≡ false
+Keeps cs c = (p : ℕ) → commit_holds p c ≡ false → holds_at p (get_commit cs c.log c.lsn) ≡ false
 
-exact-keeps : (g : Logs) (c : Commit) → setRises c ≡ true → Exact g.commits g.index → Keeps g.commits c → Exact (write g c).commits (write g c).index
+exact_keeps : (g : Logs) (c : Commit) → set_rises c ≡ true → Exact g.commits g.index → Keeps g.commits c → Exact (write g c).commits (write g c).index
 unfolding write
-exact-keeps g c up exact keeps log p lsn =
+exact_keeps g c up exact keeps log p lsn =
     rw (
-      some-putAll entryKey logPageLsn logPageLsn-lawful (log, (p, lsn)) (entriesOf c) g.index.rows,
+      some_put_all entry_key log_page_lsn log_page_lsn_lawful (log, (p, lsn)) (entries_of c) g.index.rows,
       entries c log p lsn up,
       exact log p lsn,
-      get-put commitKey logLsn logLsn-lawful (log, lsn) c g.commits.rows,
+      get_put commit_key log_lsn log_lsn_lawful (log, lsn) c g.commits.rows,
     )
-    (cases (compare_is_eq (logLsn (log, lsn) (commitKey c)))
-    (λ k. let s = logLsn-lawful.same (log, lsn) (commitKey c) (eq_of (logLsn (log, lsn) (commitKey c)) k) in
-    cases (commitHolds p c) (λ h. rw (k, h)) (λ h. rw (k, h, s) (keeps p h)))
+    (cases (compare_is_eq (log_lsn (log, lsn) (commit_key c)))
+    (λ k. let s = log_lsn_lawful.same (log, lsn) (commit_key c) (eq_of (log_lsn (log, lsn) (commit_key c)) k) in
+    cases (commit_holds p c) (λ h. rw (k, h)) (λ h. rw (k, h, s) (keeps p h)))
     (λ k. rw k))
 
 -- the commit of its key, once written
-own-commit : (g : Logs) (c : Commit) → getCommit (write g c).commits c.log c.lsn ≡ some c
+own_commit : (g : Logs) (c : Commit) → get_commit (write g c).commits c.log c.lsn ≡ some c
 unfolding write
-own-commit g c = get-put commitKey logLsn logLsn-lawful (commitKey c) c g.commits.rows ∙ rw (equal logLsn-lawful {a = commitKey c} refl)
+own_commit g c = get_put commit_key log_lsn log_lsn_lawful (commit_key c) c g.commits.rows ∙ rw (equal log_lsn_lawful {a = commit_key c} refl)
 
 -- a write that loses no page keeps the index exact
-pub exact-write : (g : Logs) (c : Commit) → setRises c ≡ true → Exact g.commits g.index → NoPageLost g.commits (write g c).commits → Exact (write g c).commits (write g c).index
-exact-write g c up exact lost =
-    exact-keeps g c up exact (λ p h.
-    cases (holdsAt p (getCommit g.commits c.log c.lsn)) (λ k. absurd (clash (ap (holdsAt p) (sym (own-commit g c)) ∙ lost c.log p c.lsn k) h)) (λ k. k))
+pub exact_write : (g : Logs) (c : Commit) → set_rises c ≡ true → Exact g.commits g.index → NoPageLost g.commits (write g c).commits → Exact (write g c).commits (write g c).index
+exact_write g c up exact lost =
+    exact_keeps g c up exact (λ p h.
+    cases (holds_at p (get_commit g.commits c.log c.lsn)) (λ k. absurd (clash (ap (holds_at p) (sym (own_commit g c)) ∙ lost c.log p c.lsn k) h)) (λ k. k))
 
 -- a write at a new key keeps the index exact
-pub exact-new : (g : Logs) (c : Commit) → setRises c ≡ true → Exact g.commits g.index → getCommit g.commits c.log c.lsn ≡ none → Exact (write g c).commits (write g c).index
-exact-new g c up exact none-there = exact-keeps g c up exact (λ p h. rw none-there)
+pub exact_new : (g : Logs) (c : Commit) → set_rises c ≡ true → Exact g.commits g.index → get_commit g.commits c.log c.lsn ≡ none → Exact (write g c).commits (write g c).index
+exact_new g c up exact none_there = exact_keeps g c up exact (λ p h. rw none_there)
 
 -- writing again what is stored keeps the index exact
-pub exact-again : (g : Logs) (c : Commit) → setRises c ≡ true → Exact g.commits g.index → getCommit g.commits c.log c.lsn ≡ some c → Exact (write g c).commits (write g c).index
-exact-again g c up exact there = exact-keeps g c up exact (λ p h. rw there h)
+pub exact_again : (g : Logs) (c : Commit) → set_rises c ≡ true → Exact g.commits g.index → get_commit g.commits c.log c.lsn ≡ some c → Exact (write g c).commits (write g c).index
+exact_again g c up exact there = exact_keeps g c up exact (λ p h. rw there h)

@@ -2,10 +2,10 @@
 use Rattle.std.specs.Prelude.{ℕ, zero, suc, ◌-◌, ◌*◌, ◌/◌, ◌%◌, ◌^◌, Bool, true, false, cond, ◌&&◌, List, [], ◌∷◌, ◌++◌, map, length, ◌==◌, bit_and, bit_or, bit_xor, nat_le, nat_lt}
 use Prim.Native.Nat.{compare, Ordering}
 use Rattle.std.proofs.Math.Option.{Option, none, some}
-use Rattle.std.specs.Answers.{Answer, done, ask, ◌>>=◌, ◌>>◌}
-use Rattle.std.specs.Int.{counts}
+use Rattle.basics.specs.Answers.{Answer, done, ask, ◌>>=◌, ◌>>◌}
+use Rattle.basics.specs.Numbers.{counts}
 use Rattle.pageset.specs.declared.Window.{Window}
-use Rattle.pageset.specs.Sets.{bit, maskAt}
+use Rattle.pageset.specs.Sets.{bit, mask_at}
 use Rattle.rules.specs.Lists.{those}
 use Rattle.rules.specs.Records.{Pages}
 
@@ -15,13 +15,13 @@ numbers a zero = []
 numbers a (suc n) = a ∷ numbers (suc a) n
 
 -- the pages of a set, rising: of each window those whose bit is set
-unfoldable pub pagesIn : Pages → List ℕ
-pagesIn [] = []
-pagesIn (w ∷ s) = those (λ p. bit w.mask (p % 64)) (numbers (w.index * 64) 64) ++ pagesIn s
+unfoldable pub pages_in : Pages → List ℕ
+pages_in [] = []
+pages_in (w ∷ s) = those (λ p. bit w.mask (p % 64)) (numbers (w.index * 64) 64) ++ pages_in s
 
 -- the number of pages of a set
 abbrev pub size : Pages → ℕ
-size s = length (pagesIn s)
+size s = length (pages_in s)
 
 -- the first of a list, or nothing
 abbrev pub head : List ℕ → Option ℕ
@@ -29,8 +29,8 @@ head [] = none
 head (p ∷ ps) = some p
 
 -- the first page of a set, or nothing
-abbrev pub firstPage : Pages → Option ℕ
-firstPage s = head (pagesIn s)
+abbrev pub first_page : Pages → Option ℕ
+first_page s = head (pages_in s)
 
 -- a set without windows
 abbrev pub is_empty : Pages → Bool
@@ -52,7 +52,7 @@ truncated s n = masked (up_to n) s
 
 -- `cut` gives the common pages
 unfoldable pub common : Pages → Pages → Pages
-common s u = masked (λ q m. bit_and m (maskAt u q)) s
+common s u = masked (λ q m. bit_and m (mask_at u q)) s
 
 -- the bits of m that k has not
 abbrev pub without : ℕ → ℕ → ℕ
@@ -60,7 +60,7 @@ without m k = bit_xor m (bit_and m k)
 
 -- `cut` removes the common pages from the left set
 unfoldable pub minus : Pages → Pages → Pages
-minus s u = masked (λ q m. without m (maskAt u q)) s
+minus s u = masked (λ q m. without m (mask_at u q)) s
 
 -- the pages of a set from a to b
 unfoldable pub span : ℕ → ℕ → Pages → Pages
@@ -76,8 +76,8 @@ unfoldable pub range_of : ℕ → ℕ → Pages
 range_of a b = map (λ (q : ℕ). record { index = q; mask = between a b q }) (numbers (a / 64) (suc (b / 64 - a / 64)))
 
 -- a built range of pages; 22 where it needs over 32 windows
-unfoldable pub builtRange : ℕ → ℕ → Answer Pages
-builtRange a b = do
+unfoldable pub built_range : ℕ → ℕ → Answer Pages
+built_range a b = do
   ask (counts a && counts b) 1
   ask (nat_le a b) 2
   ask (nat_le (suc (b / 64 - a / 64)) 32) 22
@@ -90,11 +90,11 @@ joined Ordering.eq w v s more = record { index = v.index; mask = bit_or w.mask v
 joined Ordering.gt w v s more = v ∷ more
 
 -- a window put into a set
-unfoldable pub withWindow : Window → Pages → Pages
-withWindow w [] = w ∷ []
-withWindow w (v ∷ s) = joined (compare w.index v.index) w v s (withWindow w s)
+unfoldable pub with_window : Window → Pages → Pages
+with_window w [] = w ∷ []
+with_window w (v ∷ s) = joined (compare w.index v.index) w v s (with_window w s)
 
 -- the pages of either set
 unfoldable pub union : Pages → Pages → Pages
 union [] u = u
-union (w ∷ s) u = withWindow w (union s u)
+union (w ∷ s) u = with_window w (union s u)

@@ -1,19 +1,19 @@
 -- Document 01's bench readings P1 to P12, and its example of a call list, as statements about the definitions.
 use Rattle.std.specs.Prelude.{◌≡◌, ℕ, ◌^◌, List, [], ◌∷◌, ◌++◌, length, set, replicate, slice_index_or, slice_set}
 use Rattle.std.proofs.Math.Option.{Option, none, some}
-use Rattle.std.specs.Answers.{Answer, refused, done, code}
+use Rattle.basics.specs.Answers.{Answer, refused, done, code}
 use Rattle.pageset.specs.declared.Window.{Window}
-use Rattle.rules.specs.Records.{Id, Pages, Segment, Commit, Volume, Entry, Range, Snapshot, LogLsn, commitKey}
-use Rattle.rules.specs.Pages.{pagesIn, size, truncated, range_of, builtRange}
+use Rattle.rules.specs.Records.{Id, Pages, Segment, Commit, Volume, Entry, Range, Snapshot, LogLsn, commit_key}
+use Rattle.rules.specs.Pages.{pages_in, size, truncated, range_of, built_range}
 use Rattle.rules.specs.Tables.{Table}
-use Rattle.rules.specs.Frames.{frameList, frame_of}
-use Rattle.rules.specs.Open.{openVolume}
-use Rattle.rules.specs.Snapshots.{emptySnapshot, snapshot}
+use Rattle.rules.specs.Frames.{frame_list, frame_of}
+use Rattle.rules.specs.Open.{open_volume}
+use Rattle.rules.specs.Snapshots.{empty_snapshot, snapshot}
 use Rattle.rules.specs.Save.{save}
 use Rattle.rules.specs.Sync.{sync}
 use Rattle.rules.specs.Walk.{Item, walk_of}
-use Rattle.rules.specs.Search.{searchPage}
-use Rattle.rules.specs.Calls.{Tables, fresh, empty, withVolumes, withLogs, withPresence}
+use Rattle.rules.specs.Search.{search_page}
+use Rattle.rules.specs.Calls.{Tables, fresh, empty, with_volumes, with_logs, with_presence}
 
 -- an identifier by its last byte, the rest zero
 abbrev pub ident : ℕ → Id
@@ -27,23 +27,23 @@ window q m = record { index = q; mask = m }
 
 -- page 63: window 0 bit 63
 abbrev pub P1 : Type 0
-P1 = pagesIn (window 0 (2 ^ 63) ∷ []) ≡ 63 ∷ []
+P1 = pages_in (window 0 (2 ^ 63) ∷ []) ≡ 63 ∷ []
 
 -- page 64: window 1 bit 0
 abbrev pub P2 : Type 0
-P2 = pagesIn (window 1 1 ∷ []) ≡ 64 ∷ []
+P2 = pages_in (window 1 1 ∷ []) ≡ 64 ∷ []
 
 -- page 4294967295: window 67108863 bit 63
 abbrev pub P3 : Type 0
-P3 = pagesIn (window 67108863 (2 ^ 63) ∷ []) ≡ 4294967295 ∷ []
+P3 = pages_in (window 67108863 (2 ^ 63) ∷ []) ≡ 4294967295 ∷ []
 
 -- range 1 to 2047: 32 windows, 2047 pages
 abbrev pub P4 : Type 0
-P4 = (builtRange 1 2047 ≡ done (range_of 1 2047)) × (length (range_of 1 2047) ≡ 32) × (size (range_of 1 2047) ≡ 2047)
+P4 = (built_range 1 2047 ≡ done (range_of 1 2047)) × (length (range_of 1 2047) ≡ 32) × (size (range_of 1 2047) ≡ 2047)
 
 -- range 1 to 2048: 22
 abbrev pub P5 : Type 0
-P5 = builtRange 1 2048 ≡ refused 22
+P5 = built_range 1 2048 ≡ refused 22
 
 -- {3,4,5} truncated to 4: {3,4}
 abbrev pub P6 : Type 0
@@ -59,7 +59,7 @@ segment = record { sid = ident 5; pages = window 0 0b1000101100 ∷ []; frames =
 
 -- bytes 0 to 100 exclusive with {2,3}, 100 to 150 with {5,9}
 abbrev pub P8 : Type 0
-P8 = frameList segment ≡ done (record { sid = ident 5; start = 0; end = 100; pages = window 0 0b1100 ∷ [] } ∷ record { sid = ident 5; start = 100; end = 150; pages = window 0 0b1000100000 ∷ [] } ∷ [])
+P8 = frame_list segment ≡ done (record { sid = ident 5; start = 0; end = 100; pages = window 0 0b1100 ∷ [] } ∷ record { sid = ident 5; start = 100; end = 150; pages = window 0 0b1000100000 ∷ [] } ∷ [])
 
 -- page 4: no frame
 abbrev pub P9 : Type 0
@@ -91,7 +91,7 @@ P11 = snapshot volumes (commits (bare 10 3 20 ∷ bare 11 7 30 ∷ [])) (ident 1
 
 -- local latest 3, remote commit 7 not stored: empty
 abbrev pub P12 : Type 0
-P12 = snapshot volumes (commits (bare 10 3 20 ∷ [])) (ident 1) ≡ done emptySnapshot
+P12 = snapshot volumes (commits (bare 10 3 20 ∷ [])) (ident 1) ≡ done empty_snapshot
 
 -- ---- the example of a call list
 
@@ -109,7 +109,7 @@ pub record State : Type 0 where
 
 -- volumes 4, commits 32, checkpoints 32, index 512, presence 512, tags 4
 abbrev pub begin : State
-begin = record { tables = fresh 4 32 32 512 512 4; slots = replicate 4 emptySnapshot }
+begin = record { tables = fresh 4 32 32 512 512 4; slots = replicate 4 empty_snapshot }
 
 -- log and LSN of the snapshot's head
 abbrev pub head_of : List Range → Option LogLsn
@@ -117,9 +117,9 @@ head_of [] = none
 head_of (r ∷ rs) = some (r.log, r.end)
 
 -- log and LSN of the found commit
-abbrev pub foundKey : Option Commit → Option LogLsn
-foundKey none = none
-foundKey (some c) = some (commitKey c)
+abbrev pub found_key : Option Commit → Option LogLsn
+found_key none = none
+found_key (some c) = some (commit_key c)
 
 -- what a line prints, the code and then log and LSN, and the state after it
 abbrev pub prints : {A : Type 0} → State → (A → Option LogLsn) → (A → State) → Answer A → (ℕ × Option LogLsn) × State
@@ -138,13 +138,13 @@ in_slot st n s = record { tables = st.tables; slots = slice_set st.slots n s }
 abbrev pub step : State → Line → (ℕ × Option LogLsn) × State
 step st (opens vid local remote) =
     let t = st.tables in
-    prints st (λ r. none) (λ r. changed st (withVolumes t r.1))
-    (openVolume t.volumes t.logs.commits (record { vid = some vid; local = some local; remote = some remote }) (record { vid = vid; local = local; remote = remote }))
+    prints st (λ r. none) (λ r. changed st (with_volumes t r.1))
+    (open_volume t.volumes t.logs.commits (record { vid = some vid; local = some local; remote = some remote }) (record { vid = vid; local = local; remote = remote }))
 step st (snaps vid n) = let t = st.tables in prints st (λ s. head_of s.path) (in_slot st n) (snapshot t.volumes t.logs.commits vid)
 step st (saves vid n count sid pages) =
     let t = st.tables in
-    prints st (λ r. head_of r.0.path) (λ r. changed st (withPresence (withLogs t r.1) r.2)) (save t.volumes t.logs t.presence vid (slice_index_or st.slots n emptySnapshot) count sid pages)
-step st (finds n p) = let t = st.tables in prints st foundKey (λ o. st) (searchPage t.logs.commits t.logs.index (slice_index_or st.slots n emptySnapshot) p)
+    prints st (λ r. head_of r.0.path) (λ r. changed st (with_presence (with_logs t r.1) r.2)) (save t.volumes t.logs t.presence vid (slice_index_or st.slots n empty_snapshot) count sid pages)
+step st (finds n p) = let t = st.tables in prints st found_key (λ o. st) (search_page t.logs.commits t.logs.index (slice_index_or st.slots n empty_snapshot) p)
 
 -- lines run one after the other
 abbrev pub run : State → List Line → List (ℕ × Option LogLsn)
@@ -179,24 +179,24 @@ abbrev pub paged : ℕ → ℕ → Commit
 paged lsn pages = record { log = ident 10; lsn = lsn; count = 2; hash = none; segment = some (record { sid = ident lsn; pages = window 0 pages ∷ []; frames = [] }); checkpoints = [] }
 
 -- the two, LSN down
-abbrev pub twoCommits : Table Commit
-twoCommits = commits (paged 2 0b100 ∷ paged 1 0b110 ∷ [])
+abbrev pub two_commits : Table Commit
+two_commits = commits (paged 2 0b100 ∷ paged 1 0b110 ∷ [])
 
 -- an index entry of the log
 abbrev pub entry_of : ℕ → ℕ → Entry
 entry_of page lsn = record { log = ident 10; page = page; lsn = lsn }
 
 -- their index entries, page up, LSN down
-abbrev pub theirIndex : Table Entry
-theirIndex = record { room = 512; rows = entry_of 1 1 ∷ entry_of 2 2 ∷ entry_of 2 1 ∷ [] }
+abbrev pub their_index : Table Entry
+their_index = record { room = 512; rows = entry_of 1 1 ∷ entry_of 2 2 ∷ entry_of 2 1 ∷ [] }
 
 -- an earlier range wins over a higher LSN in a later one
 abbrev pub EarlierWins : Type 0
-EarlierWins = searchPage twoCommits theirIndex (record { path = range 10 1 1 ∷ range 10 2 2 ∷ []; count = 2 }) 2 ≡ done (some (paged 1 0b110))
+EarlierWins = search_page two_commits their_index (record { path = range 10 1 1 ∷ range 10 2 2 ∷ []; count = 2 }) 2 ≡ done (some (paged 1 0b110))
 
 -- a page that no earlier range has is found in a later one
 abbrev pub LaterFound : Type 0
-LaterFound = searchPage twoCommits theirIndex (record { path = range 10 2 2 ∷ range 10 1 1 ∷ []; count = 2 }) 1 ≡ done (some (paged 1 0b110))
+LaterFound = search_page two_commits their_index (record { path = range 10 2 2 ∷ range 10 1 1 ∷ []; count = 2 }) 1 ≡ done (some (paged 1 0b110))
 
 -- each page is given once, also where ranges overlap and a log is named twice
 abbrev pub gave : List Item → List (ℕ × Pages)
@@ -205,7 +205,7 @@ gave (i ∷ is) = (i.lsn, i.pages) ∷ gave is
 
 -- commit 2 gets page 2, commit 1 page 1, and neither again
 abbrev pub GivenOnce : Type 0
-GivenOnce = gave (walk_of twoCommits (record { path = range 10 1 2 ∷ range 10 1 2 ∷ []; count = 2 })) ≡ (2, window 0 0b100 ∷ []) ∷ (1, window 0 0b10 ∷ []) ∷ []
+GivenOnce = gave (walk_of two_commits (record { path = range 10 1 2 ∷ range 10 1 2 ∷ []; count = 2 })) ≡ (2, window 0 0b100 ∷ []) ∷ (1, window 0 0b10 ∷ []) ∷ []
 
 -- ---- hypotheses that are needed
 
@@ -225,5 +225,5 @@ hiding = record {
 -- snap, save pages 1 to 2, snap, find page 2: not found
 abbrev pub Hidden : Type 0
 Hidden =
-    run (record { tables = hiding; slots = replicate 4 emptySnapshot }) (snaps (ident 1) 0 ∷ saves (ident 1) 0 2 (ident 0x51) (range_of 1 2) ∷ snaps (ident 1) 1 ∷ finds 1 2 ∷ [])
+    run (record { tables = hiding; slots = replicate 4 empty_snapshot }) (snaps (ident 1) 0 ∷ saves (ident 1) 0 2 (ident 0x51) (range_of 1 2) ∷ snaps (ident 1) 1 ∷ finds 1 2 ∷ [])
     ≡ (0, some (ident 11, 1)) ∷ (0, some (ident 11, 1)) ∷ (0, some (ident 11, 1)) ∷ (0, none) ∷ []

@@ -104,26 +104,26 @@ LogPageLsn = Id × (ℕ × ℕ)
 abbrev pub SidPage : Type 0
 SidPage = Id × ℕ
 
--- commits: log up, LSN down (the order `logLsn`)
-abbrev pub commitKey : Commit → LogLsn
-commitKey c = (c.log, c.lsn)
+-- commits: log up, LSN down (the order `log_lsn`)
+abbrev pub commit_key : Commit → LogLsn
+commit_key c = (c.log, c.lsn)
 
 -- checkpoints: the same
-abbrev pub checkpointKey : Checkpoint → LogLsn
-checkpointKey k = (k.log, k.lsn)
+abbrev pub checkpoint_key : Checkpoint → LogLsn
+checkpoint_key k = (k.log, k.lsn)
 
--- index: log up, page up, LSN down (the order `logPageLsn`)
-abbrev pub entryKey : Entry → LogPageLsn
-entryKey e = (e.log, (e.page, e.lsn))
+-- index: log up, page up, LSN down (the order `log_page_lsn`)
+abbrev pub entry_key : Entry → LogPageLsn
+entry_key e = (e.log, (e.page, e.lsn))
 
--- presence: segment up, page down (the order `sidPage`)
-abbrev pub presentKey : Present → SidPage
-presentKey p = (p.sid, p.page)
+-- presence: segment up, page down (the order `sid_page`)
+abbrev pub present_key : Present → SidPage
+present_key p = (p.sid, p.page)
 
 -- volumes and tags: key up (a name that begins another comes first)
-abbrev pub volumeKey : Volume → Id
-volumeKey v = v.vid
+abbrev pub volume_key : Volume → Id
+volume_key v = v.vid
 
 -- the key of a tag
-abbrev pub tagKey : Tag → Name
-tagKey g = g.name
+abbrev pub tag_key : Tag → Name
+tag_key g = g.name

@@ -2,11 +2,11 @@
 use Rattle.std.specs.Prelude.{ℕ, ◌+◌, Bool, cond, ◌&&◌, List, [], ◌∷◌, ◌++◌, length, nat_le}
 use Prim.Native.Nat.{Ordering}
 use Rattle.std.proofs.Math.Dec.{compare_is_eq}
-use Rattle.std.specs.Orders.{logLsn, logPageLsn}
+use Rattle.basics.specs.Orders.{log_lsn, log_page_lsn}
 use Rattle.rules.specs.Lists.{any}
-use Rattle.rules.specs.Records.{Commit, commitKey, checkpointKey, entryKey}
+use Rattle.rules.specs.Records.{Commit, commit_key, checkpoint_key, entry_key}
 use Rattle.rules.specs.Tables.{Table, capacity}
-use Rattle.rules.specs.Write.{Logs, checkpointsOf, entriesOf}
+use Rattle.rules.specs.Write.{Logs, checkpoints_of, entries_of}
 
 module _ {R K : Type 0} (key : R → K) (order : K → K → Ordering) where
   -- whether a record of that key is held
@@ -23,8 +23,8 @@ module _ {R K : Type 0} (key : R → K) (order : K → K → Ordering) where
   news (r ∷ rs) l = lacks (key r) (rs ++ l) + news rs l
 
   -- records held plus new keys do not exceed capacity
-  unfoldable pub hasRoom : Table R → List R → Bool
-  hasRoom t rs = nat_le (length t.rows + news rs t.rows) (capacity t)
+  unfoldable pub has_room : Table R → List R → Bool
+  has_room t rs = nat_le (length t.rows + news rs t.rows) (capacity t)
 
 -- what several commits bring to a table, one after the other
 unfoldable pub each : {A B : Type 0} → (A → List B) → List A → List B
@@ -32,6 +32,6 @@ each f [] = []
 each f (x ∷ xs) = f x ++ each f xs
 
 -- the three tables have room for what writing these commits adds: their keys, their checkpoints, one index entry per page
-unfoldable pub logsRoom : Logs → List Commit → Bool
-logsRoom g cs =
-    hasRoom commitKey logLsn g.commits cs && hasRoom checkpointKey logLsn g.checkpoints (each checkpointsOf cs) && hasRoom entryKey logPageLsn g.index (each entriesOf cs)
+unfoldable pub logs_room : Logs → List Commit → Bool
+logs_room g cs =
+    has_room commit_key log_lsn g.commits cs && has_room checkpoint_key log_lsn g.checkpoints (each checkpoints_of cs) && has_room entry_key log_page_lsn g.index (each entries_of cs)

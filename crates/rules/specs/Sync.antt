@@ -1,13 +1,13 @@
 -- Changes, and sync.
 use Rattle.std.specs.Prelude.{ℕ, ◌+◌, Bool, true, cond, ◌&&◌, nat_le, nat_lt}
 use Rattle.std.proofs.Math.Option.{Option, none, some}
-use Rattle.std.specs.Answers.{Answer, refused, done, ask, need, ◌>>=◌, ◌>>◌}
-use Rattle.std.specs.Int.{counts}
+use Rattle.basics.specs.Answers.{Answer, refused, done, ask, need, ◌>>=◌, ◌>>◌}
+use Rattle.basics.specs.Numbers.{counts}
 use Rattle.rules.specs.Lists.{is_none, given}
-use Rattle.std.specs.Orders.{bytes}
-use Rattle.rules.specs.Records.{Id, Commit, Volume, volumeKey}
-use Rattle.rules.specs.Tables.{Table, store, volumesFormed, commitsFormed, getVolume, latestLsn}
-use Rattle.rules.specs.Snapshots.{watermarkOf, remoteOf}
+use Rattle.basics.specs.Orders.{bytes}
+use Rattle.rules.specs.Records.{Id, Commit, Volume, volume_key}
+use Rattle.rules.specs.Tables.{Table, store, volumes_formed, commits_formed, get_volume, latest_lsn}
+use Rattle.rules.specs.Snapshots.{watermark_of, remote_of}
 
 -- changes are base+1 (or 1) to head when the base is missing or below the head, nothing when both are missing or the base is not below; base without head is 16
 unfoldable pub changed : Option ℕ → Option ℕ → Answer (Option (ℕ × ℕ))
@@ -23,27 +23,27 @@ changes base head = do
   changed base head
 
 -- sync.remote moves to the remote's latest, the watermark stays
-abbrev pub movedVolume : Volume → ℕ → Volume
-movedVolume v n = record { vid = v.vid; local = v.local; remote = v.remote; sync = some (record { remote = n; watermark = watermarkOf v.sync }); pending = v.pending }
+abbrev pub moved_volume : Volume → ℕ → Volume
+moved_volume v n = record { vid = v.vid; local = v.local; remote = v.remote; sync = some (record { remote = n; watermark = watermark_of v.sync }); pending = v.pending }
 
 -- 17: the remote is older than the sync point
-abbrev pub notOlder : Option ℕ → ℕ → Bool
-notOlder none n = true
-notOlder (some b) n = nat_le b n
+abbrev pub not_older : Option ℕ → ℕ → Bool
+not_older none n = true
+not_older (some b) n = nat_le b n
 
 -- no remote changes, done, the local side not looked at. Local changes too: 8. Then 17
-abbrev pub syncBy : Table Volume → Table Commit → Volume → Option (ℕ × ℕ) → Answer (Table Volume)
-syncBy vs cs v none = done vs
-syncBy vs cs v (some r) = do
-  here ← changed (watermarkOf v.sync) (latestLsn cs v.local)
+abbrev pub sync_by : Table Volume → Table Commit → Volume → Option (ℕ × ℕ) → Answer (Table Volume)
+sync_by vs cs v none = done vs
+sync_by vs cs v (some r) = do
+  here ← changed (watermark_of v.sync) (latest_lsn cs v.local)
   ask (is_none here) 8
-  ask (notOlder (remoteOf v.sync) r.1) 17
-  done (store volumeKey bytes (movedVolume v r.1) vs)
+  ask (not_older (remote_of v.sync) r.1) 17
+  done (store volume_key bytes (moved_volume v r.1) vs)
 
 -- sync; the remote is worked out first
 unfoldable pub sync : Table Volume → Table Commit → Id → Answer (Table Volume)
 sync vs cs vid = do
-  ask (volumesFormed vs && commitsFormed cs) 20
-  v ← need (getVolume vs vid) 4
-  there ← changed (remoteOf v.sync) (latestLsn cs v.remote)
-  syncBy vs cs v there
+  ask (volumes_formed vs && commits_formed cs) 20
+  v ← need (get_volume vs vid) 4
+  there ← changed (remote_of v.sync) (latest_lsn cs v.remote)
+  sync_by vs cs v there

@@ -4,9 +4,9 @@ use Prim.Native.Nat.{Ordering}
 use Rattle.std.proofs.Math.Option.{Option, map}
 use Rattle.std.proofs.Math.Dec.{compare_is_eq}
 use Rattle.rules.specs.Lists.{first, those, all}
-use Rattle.std.specs.Orders.{bytes, is_lt, logLsn, logPageLsn, sidPage}
-use Rattle.rules.specs.Records.{Id, Name, Commit, Volume, Entry, Checkpoint, Present, Tag, commitKey, checkpointKey, entryKey, presentKey, volumeKey, tagKey}
-use Rattle.rules.specs.Forms.{commitForm, checkpointForm, entryForm, presentForm, volumeForm, tagForm}
+use Rattle.basics.specs.Orders.{bytes, is_lt, log_lsn, log_page_lsn, sid_page}
+use Rattle.rules.specs.Records.{Id, Name, Commit, Volume, Entry, Checkpoint, Present, Tag, commit_key, checkpoint_key, entry_key, present_key, volume_key, tag_key}
+use Rattle.rules.specs.Forms.{commit_form, checkpoint_form, entry_form, present_form, volume_form, tag_form}
 
 -- a lent table: its records, and the whole records that fit
 pub record Table (R : Type 0) : Type 0 where
@@ -34,9 +34,9 @@ module _ {R : Type 0} where
 
 module _ {R K : Type 0} (key : R → K) (order : K → K → Ordering) where
   -- the keys strictly rise: each record's key is below that of every later record
-  unfoldable pub inOrder : List R → Bool
-  inOrder [] = true
-  inOrder (x ∷ xs) = all (λ y. is_lt (order (key x) (key y))) xs && inOrder xs
+  unfoldable pub in_order : List R → Bool
+  in_order [] = true
+  in_order (x ∷ xs) = all (λ y. is_lt (order (key x) (key y))) xs && in_order xs
 
   -- the record of a key
   unfoldable pub get : K → List R → Option R
@@ -54,15 +54,15 @@ module _ {R K : Type 0} (key : R → K) (order : K → K → Ordering) where
 
   -- 20: a table's count, its key order, the form of each field
   unfoldable pub formed : (R → Bool) → Table R → Bool
-  formed form t = fits t && inOrder t.rows && all form t.rows
+  formed form t = fits t && in_order t.rows && all form t.rows
 
   -- a table with a record stored
   abbrev pub store : R → Table R → Table R
   store r t = over t (put r t.rows)
 
   -- a table with several records stored
-  abbrev pub storeAll : List R → Table R → Table R
-  storeAll rs t = over t (put_all rs t.rows)
+  abbrev pub store_all : List R → Table R → Table R
+  store_all rs t = over t (put_all rs t.rows)
 
 -- a table without the records that pass a test
 abbrev pub remove : {R : Type 0} → (R → Bool) → Table R → Table R
@@ -71,59 +71,59 @@ remove f t = over t (those (λ r. not (f r)) t.rows)
 -- ---- the six tables, as 20 asks them
 
 -- commits
-abbrev pub commitsFormed : Table Commit → Bool
-commitsFormed cs = formed commitKey logLsn commitForm cs
+abbrev pub commits_formed : Table Commit → Bool
+commits_formed cs = formed commit_key log_lsn commit_form cs
 
 -- checkpoints
-abbrev pub checkpointsFormed : Table Checkpoint → Bool
-checkpointsFormed ks = formed checkpointKey logLsn checkpointForm ks
+abbrev pub checkpoints_formed : Table Checkpoint → Bool
+checkpoints_formed ks = formed checkpoint_key log_lsn checkpoint_form ks
 
 -- index
-abbrev pub indexFormed : Table Entry → Bool
-indexFormed es = formed entryKey logPageLsn entryForm es
+abbrev pub index_formed : Table Entry → Bool
+index_formed es = formed entry_key log_page_lsn entry_form es
 
 -- presence
-abbrev pub presenceFormed : Table Present → Bool
-presenceFormed ps = formed presentKey sidPage presentForm ps
+abbrev pub presence_formed : Table Present → Bool
+presence_formed ps = formed present_key sid_page present_form ps
 
 -- volumes
-abbrev pub volumesFormed : Table Volume → Bool
-volumesFormed vs = formed volumeKey bytes volumeForm vs
+abbrev pub volumes_formed : Table Volume → Bool
+volumes_formed vs = formed volume_key bytes volume_form vs
 
 -- tags
-abbrev pub tagsFormed : Table Tag → Bool
-tagsFormed gs = formed tagKey bytes tagForm gs
+abbrev pub tags_formed : Table Tag → Bool
+tags_formed gs = formed tag_key bytes tag_form gs
 
 -- ---- lookups: the record or nothing
 
 -- identifiers are compared byte by byte
-abbrev pub sameId : Id → Id → Bool
-sameId a b = compare_is_eq (bytes a b)
+abbrev pub same_id : Id → Id → Bool
+same_id a b = compare_is_eq (bytes a b)
 
 -- the volume of an identifier
-abbrev pub getVolume : Table Volume → Id → Option Volume
-getVolume vs vid = get volumeKey bytes vid vs.rows
+abbrev pub get_volume : Table Volume → Id → Option Volume
+get_volume vs vid = get volume_key bytes vid vs.rows
 
 -- the commit of a log at an LSN
-abbrev pub getCommit : Table Commit → Id → ℕ → Option Commit
-getCommit cs log lsn = get commitKey logLsn (log, lsn) cs.rows
+abbrev pub get_commit : Table Commit → Id → ℕ → Option Commit
+get_commit cs log lsn = get commit_key log_lsn (log, lsn) cs.rows
 
 -- the tag of a name
-abbrev pub getTag : Table Tag → Name → Option Tag
-getTag gs name = get tagKey bytes name gs.rows
+abbrev pub get_tag : Table Tag → Name → Option Tag
+get_tag gs name = get tag_key bytes name gs.rows
 
 -- the entry of a segment's page
-abbrev pub getPresent : Table Present → Id → ℕ → Option Present
-getPresent ps sid page = get presentKey sidPage (sid, page) ps.rows
+abbrev pub get_present : Table Present → Id → ℕ → Option Present
+get_present ps sid page = get present_key sid_page (sid, page) ps.rows
 
 -- a log's latest commit is its first: LSNs go down
 abbrev pub latest : Table Commit → Id → Option Commit
-latest cs log = first (λ c. sameId log c.log) cs.rows
+latest cs log = first (λ c. same_id log c.log) cs.rows
 
 -- latest LSN is the log's highest
-abbrev pub latestLsn : Table Commit → Id → Option ℕ
-latestLsn cs log = map (λ (c : Commit). c.lsn) (latest cs log)
+abbrev pub latest_lsn : Table Commit → Id → Option ℕ
+latest_lsn cs log = map (λ (c : Commit). c.lsn) (latest cs log)
 
 -- checkpoint lookup: the highest at or below an LSN
-abbrev pub checkpointAt : Table Checkpoint → Id → ℕ → Option Checkpoint
-checkpointAt ks log lsn = first (λ k. sameId log k.log && nat_le k.lsn lsn) ks.rows
+abbrev pub checkpoint_at : Table Checkpoint → Id → ℕ → Option Checkpoint
+checkpoint_at ks log lsn = first (λ k. same_id log k.log && nat_le k.lsn lsn) ks.rows

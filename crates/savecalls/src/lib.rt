@@ -1,21 +1,21 @@
 // Save: a commit of pages on a volume's local log, all or nothing over four tables. `save_plan` decides and stores nothing, `save_stored` asks for room and stores,
 // `save` is the call. It answers on every input, 20 first.
 ghost use Rattle.std.specs.Prelude.{◌≡◌, ◌≤◌, true, false, length};
-ghost use Rattle.std.specs.Answers.{refused as refusedWith, code};
+ghost use Rattle.basics.specs.Answers.{refused as refusedWith, code};
 ghost use Rattle.pageset.specs.Sets.{shown, normal};
-ghost use Rattle.rules.specs.Forms.{lsnForm, volumeForm};
+ghost use Rattle.rules.specs.Forms.{lsn_form, volume_form};
 ghost use Rattle.rules.specs.Lists.{any};
-ghost use Rattle.volume.specs.Volumes.{volumeSays};
-ghost use Rattle.volume.specs.Snapshots.{snapshotSays};
-ghost use Rattle.layout.specs.Tables.{volumesIn, volumesOk, commitsIn, commitsOk, checkpointsOk, indexOk, presenceIn, presenceOk};
-ghost use Rattle.writecalls.specs.Written.{logsIn};
-ghost use Rattle.presence.specs.Pages.{ofSegment};
-ghost use Rattle.savecalls.specs.Saving.{setFormed, saveOk, argumentsIn, saveOn, Leaves, planned, planSays, stored};
+ghost use Rattle.volume.specs.Volumes.{volume_says};
+ghost use Rattle.volume.specs.Snapshots.{snapshot_says};
+ghost use Rattle.layout.specs.Tables.{volumes_in, volumes_ok, commits_in, commits_ok, checkpoints_ok, index_ok, presence_in, presence_ok};
+ghost use Rattle.writecalls.specs.Written.{logs_in};
+ghost use Rattle.presence.specs.Pages.{of_segment};
+ghost use Rattle.savecalls.specs.Saving.{set_formed, save_ok, arguments_in, save_on, Leaves, planned, plan_says, stored};
 
 use arguments::snapshots::{snapshot_arg, snapshot_ok};
-use core::id::{SegmentId, VolumeId};
-use core::lsn::{Lsn, LsnAnswer};
-use core::page_count::PageCount;
+use basics::id::{SegmentId, VolumeId};
+use basics::lsn::{Lsn, LsnAnswer};
+use basics::page_count::PageCount;
 use entries::presence_formed;
 use layout::{SET, SNAPSHOT};
 use pageset::PageSet;
@@ -40,7 +40,7 @@ fn tables_formed(
     index: &[u8],
     presence: &[u8],
 ) -> bool
-    ensures { result ≡ saveOk volumes.now commits.now checkpoints.now index.now presence.now }
+    ensures { result ≡ save_ok volumes.now commits.now checkpoints.now index.now presence.now }
 {
     if !volumes_formed(volumes) {
         return false;
@@ -53,7 +53,7 @@ fn tables_formed(
 
 // Whether an argument has a set's size and form.
 fn set_ok(b: &[u8]) -> bool
-    ensures { result ≡ setFormed b.now }
+    ensures { result ≡ set_formed b.now }
 {
     if b.len() != SET {
         return false;
@@ -63,7 +63,7 @@ fn set_ok(b: &[u8]) -> bool
 
 // 1, 2 or 3 of the arguments and of the place for the answer, or 0.
 fn arguments_number(snapshot: &[u8], pages: &[u8], place: usize) -> u32
-    ensures { result ≡ code (argumentsIn snapshot.now pages.now place) }
+    ensures { result ≡ code (arguments_in snapshot.now pages.now place) }
 {
     let s = snapshot_arg(snapshot);
     if !s.has_lsns() {
@@ -116,8 +116,8 @@ fn save_plan(
     s: Snapshot,
     sid: SegmentId,
 ) -> Plan
-    requires { (volumesOk volumes.now ≡ true) × (commitsOk commits.now ≡ true) × (presenceOk presence.now ≡ true) × (s.len ≤ 8) }
-    ensures { planSays result ≡ planned (volumesIn volumes.now) (commitsIn commits.now) (presenceIn presence.now) vid (snapshotSays s) sid }
+    requires { (volumes_ok volumes.now ≡ true) × (commits_ok commits.now ≡ true) × (presence_ok presence.now ≡ true) × (s.len ≤ 8) }
+    ensures { plan_says result ≡ planned (volumes_in volumes.now) (commits_in commits.now) (presence_in presence.now) vid (snapshot_says s) sid }
 {
     let Spot::At(i) = find_volume(volumes, vid) else {
         return no_plan(4);
@@ -154,10 +154,10 @@ fn save_stored(
     set: PageSet,
     out: &mut [u8],
 ) -> u32
-    requires commits_value { (commitsOk commits.old ≡ true) × (checkpointsOk checkpoints.old ≡ true) × (indexOk index.old ≡ true) × (presenceOk presence.old ≡ true) }
-    requires volume_value { (volumeForm (volumeSays p.volume) ≡ true) × (lsnForm p.lsn.0 ≡ true) × (normal set ≡ true) }
-    requires presence_value { (any (ofSegment sid) (presenceIn presence.old).rows ≡ false) × (length out.old ≡ 262) }
-    ensures { Leaves commits.old checkpoints.old index.old presence.old out.old (stored (logsIn commits.old checkpoints.old index.old) (presenceIn presence.old) (volumeSays p.volume) p.lsn.0 count.0 sid (shown set)) result commits.new checkpoints.new index.new presence.new out.new }
+    requires commits_value { (commits_ok commits.old ≡ true) × (checkpoints_ok checkpoints.old ≡ true) × (index_ok index.old ≡ true) × (presence_ok presence.old ≡ true) }
+    requires volume_value { (volume_form (volume_says p.volume) ≡ true) × (lsn_form p.lsn.0 ≡ true) × (normal set ≡ true) }
+    requires presence_value { (any (of_segment sid) (presence_in presence.old).rows ≡ false) × (length out.old ≡ 262) }
+    ensures { Leaves commits.old checkpoints.old index.old presence.old out.old (stored (logs_in commits.old checkpoints.old index.old) (presence_in presence.old) (volume_says p.volume) p.lsn.0 count.0 sid (shown set)) result commits.new checkpoints.new index.new presence.new out.new }
 {
     let v = p.volume;
     let lsn = p.lsn;
@@ -192,7 +192,7 @@ pub fn save(
     pages: &[u8],
     out: &mut [u8],
 ) -> u32
-    ensures { Leaves commits.old checkpoints.old index.old presence.old out.old (saveOn volumes.now commits.old checkpoints.old index.old presence.old vid snapshot.now count.0 sid pages.now out.old) result commits.new checkpoints.new index.new presence.new out.new }
+    ensures { Leaves commits.old checkpoints.old index.old presence.old out.old (save_on volumes.now commits.old checkpoints.old index.old presence.old vid snapshot.now count.0 sid pages.now out.old) result commits.new checkpoints.new index.new presence.new out.new }
 {
     if !tables_formed(volumes, commits, checkpoints, index, presence) {
         return 20;

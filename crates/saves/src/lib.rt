@@ -1,26 +1,26 @@
 // What a save adds: its LSN, whether its segment is in use, its commit in bytes, and its pages, which become present.
 ghost use Rattle.std.specs.Prelude.{◌≡◌, ◌+◌, ◌*◌, ◌≤◌, true, false, length};
 ghost use Rattle.octets.specs.Bytes as B;
-ghost use Rattle.std.specs.Says.{lsnSays};
+ghost use Rattle.basics.specs.Says.{lsn_says};
 ghost use Rattle.pageset.specs.Sets.{shown, normal};
 ghost use Rattle.rules.specs.Lists.{any};
-ghost use Rattle.rules.specs.Forms.{lsnForm, volumeForm, commitForm};
+ghost use Rattle.rules.specs.Forms.{lsn_form, volume_form, commit_form};
 ghost use Rattle.rules.specs.Pages.{size};
-ghost use Rattle.rules.specs.Tables.{latestLsn, fits};
-ghost use Rattle.rules.specs.Save.{lsnAfter, hasSid, sidInUse, savedCommit, nowPresent};
-ghost use Rattle.volume.specs.Volumes.{volumeSays};
-ghost use Rattle.commitbytes.specs.Laid.{commitLaid};
-ghost use Rattle.layout.specs.Records.{commitBytes, presentBytes};
-ghost use Rattle.layout.specs.Tables.{commitsIn, commitsOk, presenceIn, presenceOk, laidOver};
-ghost use Rattle.presence.specs.Pages.{ofSegment};
+ghost use Rattle.rules.specs.Tables.{latest_lsn, fits};
+ghost use Rattle.rules.specs.Save.{lsn_after, has_sid, sid_in_use, saved_commit, now_present};
+ghost use Rattle.volume.specs.Volumes.{volume_says};
+ghost use Rattle.commitbytes.specs.Laid.{commit_laid};
+ghost use Rattle.layout.specs.Records.{commit_bytes, present_bytes};
+ghost use Rattle.layout.specs.Tables.{commits_in, commits_ok, presence_in, presence_ok, laid_over};
+ghost use Rattle.presence.specs.Pages.{of_segment};
 ghost use Rattle.saves.specs.Added.{filled};
 
 use commit::{Commit, SegmentIdx, no_checkpoints};
 use commits::{Place, lsn_at, sid_is};
-use core::id::{LogId, SegmentId};
-use core::lsn::{Lsn, LsnAnswer};
-use core::page_count::PageCount;
-use core::pageidx::PageIdx;
+use basics::id::{LogId, SegmentId};
+use basics::lsn::{Lsn, LsnAnswer};
+use basics::page_count::PageCount;
+use basics::pageidx::PageIdx;
 use entries::present_key;
 use layout::PRESENT;
 use pageset::{PageSet, Window, sets};
@@ -31,8 +31,8 @@ use volume::volume::Volume;
 
 // The LSN after a log's latest, and 1 where it has no commit: 18 where none is left.
 pub fn next_lsn(commits: &[u8], log: LogId) -> LsnAnswer
-    requires { commitsOk commits.now ≡ true }
-    ensures { lsnSays result ≡ lsnAfter (latestLsn (commitsIn commits.now) log) }
+    requires { commits_ok commits.now ≡ true }
+    ensures { lsn_says result ≡ lsn_after (latest_lsn (commits_in commits.now) log) }
 {
     let Place::At(i) = commits::latest(commits, log) else {
         return LsnAnswer::At(Lsn(1));
@@ -46,8 +46,8 @@ pub fn next_lsn(commits: &[u8], log: LogId) -> LsnAnswer
 
 // Whether a commit names the segment.
 fn any_commit(commits: &[u8], sid: SegmentId) -> bool
-    requires { commitsOk commits.now ≡ true }
-    ensures { result ≡ any (λ c. hasSid sid c.segment) (commitsIn commits.now).rows }
+    requires { commits_ok commits.now ≡ true }
+    ensures { result ≡ any (λ c. has_sid sid c.segment) (commits_in commits.now).rows }
 {
     let n = table::count(commits);
     let mut i: usize = 0;
@@ -62,8 +62,8 @@ fn any_commit(commits: &[u8], sid: SegmentId) -> bool
 
 // Whether a commit or a present page is of the segment.
 pub fn in_use(commits: &[u8], presence: &[u8], sid: SegmentId) -> bool
-    requires { (commitsOk commits.now ≡ true) × (presenceOk presence.now ≡ true) }
-    ensures { result ≡ sidInUse (commitsIn commits.now) (presenceIn presence.now) sid }
+    requires { (commits_ok commits.now ≡ true) × (presence_ok presence.now ≡ true) }
+    ensures { result ≡ sid_in_use (commits_in commits.now) (presence_in presence.now) sid }
 {
     if any_present(presence, sid) {
         return true;
@@ -76,7 +76,7 @@ pub fn in_use(commits: &[u8], presence: &[u8], sid: SegmentId) -> bool
 // The commit of a save; it is a checkpoint where the page count is the number of its pages.
 fn commit_made(v: Volume, lsn: Lsn, count: PageCount, sid: SegmentId, set: PageSet) -> Commit
     requires { normal set ≡ true }
-    ensures { result ≡ commitLaid (savedCommit (volumeSays v) lsn.0 count.0 sid (shown set)) }
+    ensures { result ≡ commit_laid (saved_commit (volume_says v) lsn.0 count.0 sid (shown set)) }
 {
     let log = v.local;
     let segment = SegmentIdx::new(sid, set);
@@ -98,10 +98,10 @@ pub fn write_saved(
     sid: SegmentId,
     set: PageSet,
 )
-    requires v_value { (volumeForm (volumeSays v) ≡ true) × (lsnForm lsn.0 ≡ true) × (normal set ≡ true) }
+    requires v_value { (volume_form (volume_says v) ≡ true) × (lsn_form lsn.0 ≡ true) × (normal set ≡ true) }
     requires bytes_len { length bytes.old ≡ 722 }
-    ensures bytes_after { bytes.new ≡ commitBytes.spell (savedCommit (volumeSays v) lsn.0 count.0 sid (shown set)) }
-    ensures set_value { commitForm (savedCommit (volumeSays v) lsn.0 count.0 sid (shown set)) ≡ true }
+    ensures bytes_after { bytes.new ≡ commit_bytes.spell (saved_commit (volume_says v) lsn.0 count.0 sid (shown set)) }
+    ensures set_value { commit_form (saved_commit (volume_says v) lsn.0 count.0 sid (shown set)) ≡ true }
 {
     let c = commit_made(v, lsn, count, sid, set);
     commitbytes::commit_write(bytes, 0, c);
@@ -111,9 +111,9 @@ pub fn write_saved(
 
 // Whether there is room for the pages of a segment of which none is present.
 pub fn room_for_pages(t: &[u8], sid: SegmentId, set: PageSet) -> bool
-    requires t_value { (presenceOk t.now ≡ true) × (normal set ≡ true) }
-    requires t_value_2 { any (ofSegment sid) (presenceIn t.now).rows ≡ false }
-    ensures { result ≡ fits (nowPresent sid (shown set) (presenceIn t.now)) }
+    requires t_value { (presence_ok t.now ≡ true) × (normal set ≡ true) }
+    requires t_value_2 { any (of_segment sid) (presence_in t.now).rows ≡ false }
+    ensures { result ≡ fits (now_present sid (shown set) (presence_in t.now)) }
 {
     let n = sets::cardinality(set).0 as usize;
     table::room_for(t, PRESENT, n)
@@ -142,10 +142,10 @@ fn fill_pages(t: &mut [u8], at: usize, sid: SegmentId, set: PageSet)
 
 // The pages of a segment of which none is present become present; there is room for them. Their rows are one run, so those behind it move once.
 pub fn put_pages(t: &mut [u8], sid: SegmentId, set: PageSet)
-    requires t_value { (presenceOk t.old ≡ true) × (normal set ≡ true) }
-    requires t_value_2 { any (ofSegment sid) (presenceIn t.old).rows ≡ false }
-    requires t_value_3 { fits (nowPresent sid (shown set) (presenceIn t.old)) ≡ true }
-    ensures { t.new ≡ laidOver presentBytes (nowPresent sid (shown set) (presenceIn t.old)) t.old }
+    requires t_value { (presence_ok t.old ≡ true) × (normal set ≡ true) }
+    requires t_value_2 { any (of_segment sid) (presence_in t.old).rows ≡ false }
+    requires t_value_3 { fits (now_present sid (shown set) (presence_in t.old)) ≡ true }
+    ensures { t.new ≡ laid_over present_bytes (now_present sid (shown set) (presence_in t.old)) t.old }
 {
     let n = sets::cardinality(set).0 as usize;
     let key = present_key(sid, PageIdx(4294967295));

@@ -1,21 +1,21 @@
 // The calls that look a page or a checkpoint up: search in a snapshot, and the highest checkpoint at or below an LSN. Each answers on every input, 20 first.
 ghost use Rattle.std.specs.Prelude.{◌≡◌, ◌≤◌, true, ◌&&◌, map, length, take};
-ghost use Rattle.std.specs.Says.{maybeLsnSays};
-ghost use Rattle.rules.specs.Search.{searchPath};
-ghost use Rattle.rules.specs.Reads.{checkpointRead};
-ghost use Rattle.layout.specs.Records.{commitBytes};
-ghost use Rattle.layout.specs.Tables.{commitsIn, commitsOk, checkpointsIn, checkpointsOk, indexIn, indexOk};
+ghost use Rattle.basics.specs.Says.{maybe_lsn_says};
+ghost use Rattle.rules.specs.Search.{search_path};
+ghost use Rattle.rules.specs.Reads.{checkpoint_read};
+ghost use Rattle.layout.specs.Records.{commit_bytes};
+ghost use Rattle.layout.specs.Tables.{commits_in, commits_ok, checkpoints_in, checkpoints_ok, index_in, index_ok};
 ghost use Rattle.layout.specs.Lent.{lent};
-ghost use Rattle.volume.specs.Snapshots.{rangeSays};
-ghost use Rattle.arguments.specs.Replies.{valueOr};
-ghost use Rattle.searchcalls.specs.Searches.{Within, hitSays, HitOf, entryCommit, searchIn};
+ghost use Rattle.volume.specs.Snapshots.{range_says};
+ghost use Rattle.arguments.specs.Replies.{value_or};
+ghost use Rattle.searchcalls.specs.Searches.{Within, hit_says, HitOf, entry_commit, search_in};
 
 use arguments::Reply;
 use arguments::snapshots::{snapshot_arg, snapshot_ok};
 use commits::{Place, commits_formed, find_commit};
-use core::id::LogId;
-use core::lsn::{Lsn, MaybeLsnAnswer};
-use core::pageidx::PageIdx;
+use basics::id::LogId;
+use basics::lsn::{Lsn, MaybeLsnAnswer};
+use basics::pageidx::PageIdx;
 use entries::{checkpoints_formed, index_formed};
 use layout::COMMIT;
 use lookups::entry_in;
@@ -32,8 +32,8 @@ enum Hit {
 
 // The commit that an index entry names.
 fn entry_commit(commits: &[u8], log: LogId, lsn: Lsn) -> Hit
-    requires { commitsOk commits.now ≡ true }
-    ensures { HitOf commits.now (entryCommit (commitsIn commits.now) log lsn.0) result }
+    requires { commits_ok commits.now ≡ true }
+    ensures { HitOf commits.now (entry_commit (commits_in commits.now) log lsn.0) result }
 {
     match find_commit(commits, log, lsn.0) {
         Place::At(i) => Hit::At(i),
@@ -43,8 +43,8 @@ fn entry_commit(commits: &[u8], log: LogId, lsn: Lsn) -> Hit
 
 // The search over the first ranges of a path: the first that has an entry of the page decides.
 fn search_path(commits: &[u8], index: &[u8], path: [LogRange; 8], len: usize, page: PageIdx) -> Hit
-    requires { (commitsOk commits.now ≡ true) × (indexOk index.now ≡ true) × (len ≤ 8) }
-    ensures { HitOf commits.now (searchPath (commitsIn commits.now) (indexIn index.now) page.0 (map rangeSays (take len path))) result }
+    requires { (commits_ok commits.now ≡ true) × (index_ok index.now ≡ true) × (len ≤ 8) }
+    ensures { HitOf commits.now (search_path (commits_in commits.now) (index_in index.now) page.0 (map range_says (take len path))) result }
 {
     let mut i: usize = 0;
     while i < len {
@@ -60,8 +60,8 @@ fn search_path(commits: &[u8], index: &[u8], path: [LogRange; 8], len: usize, pa
 
 // What a search found: a commit's bytes go to `out`.
 fn put_hit(commits: &[u8], hit: Hit, out: &mut [u8]) -> Reply
-    requires { (commitsOk commits.now ≡ true) × Within commits.now hit × (length out.old ≡ 722) }
-    ensures { (result, out.new) ≡ valueOr commitBytes.spell out.old (hitSays commits.now hit) }
+    requires { (commits_ok commits.now ≡ true) × Within commits.now hit × (length out.old ≡ 722) }
+    ensures { (result, out.new) ≡ value_or commit_bytes.spell out.old (hit_says commits.now hit) }
 {
     match hit {
         Hit::At(i) => {
@@ -75,7 +75,7 @@ fn put_hit(commits: &[u8], hit: Hit, out: &mut [u8]) -> Reply
 
 // The commit that a snapshot has of a page, to `out`: 20, 1, 2, 3, 21.
 pub fn search(commits: &[u8], index: &[u8], snapshot: &[u8], page: PageIdx, out: &mut [u8]) -> Reply
-    ensures { (result, out.new) ≡ valueOr commitBytes.spell out.old (lent (commitsOk commits.now && indexOk index.now) (searchIn (commitsIn commits.now) (indexIn index.now) snapshot.now page.0 out.old)) }
+    ensures { (result, out.new) ≡ value_or commit_bytes.spell out.old (lent (commits_ok commits.now && index_ok index.now) (search_in (commits_in commits.now) (index_in index.now) snapshot.now page.0 out.old)) }
 {
     if !commits_formed(commits) {
         return Reply { code: 20, found: 0 };
@@ -105,7 +105,7 @@ pub fn search(commits: &[u8], index: &[u8], snapshot: &[u8], page: PageIdx, out:
 
 // The highest checkpoint of a log at or below an LSN, or nothing: 20, 1.
 pub fn checkpoint_at(checkpoints: &[u8], log: LogId, lsn: Lsn) -> MaybeLsnAnswer
-    ensures { maybeLsnSays result ≡ lent (checkpointsOk checkpoints.now) (checkpointRead (checkpointsIn checkpoints.now) log lsn.0) }
+    ensures { maybe_lsn_says result ≡ lent (checkpoints_ok checkpoints.now) (checkpoint_read (checkpoints_in checkpoints.now) log lsn.0) }
 {
     if !checkpoints_formed(checkpoints) {
         return MaybeLsnAnswer::Refused(20);

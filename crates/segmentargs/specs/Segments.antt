@@ -1,68 +1,68 @@
 -- A segment or a range of one in bytes as an argument, and a range as an answer.
 use Rattle.std.specs.Prelude.{ℕ, Bool, cond, ◌&&◌, List, length, replicate, ◌==◌, nat_le}
 use Rattle.std.proofs.Math.Option.{Option}
-use Rattle.std.specs.Answers.{Answer, done, ask, ◌>>=◌, ◌>>◌}
+use Rattle.basics.specs.Answers.{Answer, done, ask, ◌>>=◌, ◌>>◌}
 use Rattle.pageset.specs.Sets.{normal}
-use Rattle.rules.specs.Forms.{segmentForm}
-use Rattle.rules.specs.Frames.{Part, touching, joinedPart}
+use Rattle.rules.specs.Forms.{segment_form}
+use Rattle.rules.specs.Frames.{Part, touching, joined_part}
 use Rattle.commit.specs.declared.SegmentIdx.{SegmentIdx}
 use Rattle.commit.specs.declared.SegmentRange.{SegmentRange}
 use Rattle.commit.specs.declared.RangeAnswer.{RangeAnswer}
-use Rattle.commit.specs.Builders.{zeroFrames}
-use Rattle.commit.specs.Says.{givenSays, rangeSays}
-use Rattle.layout.specs.Codecs.{inForm}
-use Rattle.layout.specs.Values.{segmentBytes, partBytes}
-use Rattle.segmentbytes.specs.Laid.{segmentLaid, part_form}
-use Rattle.setbytes.specs.Laid.{setLaid}
+use Rattle.commit.specs.Builders.{zero_frames}
+use Rattle.commit.specs.Says.{given_says, range_says}
+use Rattle.layout.specs.Codecs.{in_form}
+use Rattle.layout.specs.Values.{segment_bytes, part_bytes}
+use Rattle.segmentbytes.specs.Laid.{segment_laid, part_form}
+use Rattle.setbytes.specs.Laid.{set_laid}
 use Rattle.arguments.specs.declared.Reply.{Reply}
-use Rattle.arguments.specs.Args.{argument, notASet}
-use Rattle.arguments.specs.Replies.{none-under, valueOr}
+use Rattle.arguments.specs.Args.{argument, not_aset}
+use Rattle.arguments.specs.Replies.{none_under, value_or}
 use Rattle.layout.specs.Lent.{sized}
 use Rattle.arguments.specs.Sets.{early}
 
 -- a segment that is not in form: its set is not
-unfoldable pub notASegment : SegmentIdx
-notASegment = record { sid = replicate 16 0; pages = notASet; len = 0; frames = zeroFrames }
+unfoldable pub not_asegment : SegmentIdx
+not_asegment = record { sid = replicate 16 0; pages = not_aset; len = 0; frames = zero_frames }
 
 -- a segment in bytes
-abbrev pub segmentArg : List ℕ → SegmentIdx
-segmentArg b = argument segmentBytes segmentForm segmentLaid notASegment b
+abbrev pub segment_arg : List ℕ → SegmentIdx
+segment_arg b = argument segment_bytes segment_form segment_laid not_asegment b
 
 -- a range of no bytes whose set is not in form
-unfoldable pub notARange : SegmentRange
-notARange = record { sid = replicate 16 0; start = 0; end = 0; pages = notASet }
+unfoldable pub not_arange : SegmentRange
+not_arange = record { sid = replicate 16 0; start = 0; end = 0; pages = not_aset }
 
 -- bytes of a range's size: what they spell, with a set that is not in form where theirs is not
-abbrev pub rangeIn : Bool → Part → SegmentRange
-rangeIn formed p = record { sid = p.sid; start = p.start; end = p.end; pages = cond formed (setLaid p.pages) notASet }
+abbrev pub range_in : Bool → Part → SegmentRange
+range_in formed p = record { sid = p.sid; start = p.start; end = p.end; pages = cond formed (set_laid p.pages) not_aset }
 
 -- a range in bytes; of another length nothing is looked at
-unfoldable pub rangeArg : List ℕ → SegmentRange
-rangeArg b = cond (length b == partBytes.size) (rangeIn (inForm partBytes part_form b) (partBytes.read b)) notARange
+unfoldable pub range_arg : List ℕ → SegmentRange
+range_arg b = cond (length b == part_bytes.size) (range_in (in_form part_bytes part_form b) (part_bytes.read b)) not_arange
 
 -- a range's bytes or nothing, in what is lent for them
-abbrev pub rangeBytes : List ℕ → Answer (Option Part) → Reply × List ℕ
-rangeBytes was q = valueOr partBytes.spell was q
+abbrev pub range_bytes : List ℕ → Answer (Option Part) → Reply × List ℕ
+range_bytes was q = value_or part_bytes.spell was q
 
 -- after the rule's own numbers
-abbrev pub rangeLeft : List ℕ → Answer (Option Part) → Reply × List ℕ
-rangeLeft was q = rangeBytes was (sized partBytes.size was q)
+abbrev pub range_left : List ℕ → Answer (Option Part) → Reply × List ℕ
+range_left was q = range_bytes was (sized part_bytes.size was q)
 
 -- two ranges to be joined: 2, 3, and the range that they make, or none where they do not touch
-unfoldable pub touchRule : SegmentRange → SegmentRange → Answer (Option Part)
-touchRule a b = do
+unfoldable pub touch_rule : SegmentRange → SegmentRange → Answer (Option Part)
+touch_rule a b = do
   ask (nat_le a.start a.end && nat_le b.start b.end) 2
   ask (normal a.pages && normal b.pages) 3
-  done (touching (rangeSays a) (rangeSays b))
+  done (touching (range_says a) (range_says b))
 
 -- and after them what is lent, and then 22
-abbrev pub joinLeft : List ℕ → SegmentRange → SegmentRange → Reply × List ℕ
-joinLeft was a b = rangeBytes was (sized partBytes.size was (touchRule a b) >>= joinedPart)
+abbrev pub join_left : List ℕ → SegmentRange → SegmentRange → Reply × List ℕ
+join_left was a b = range_bytes was (sized part_bytes.size was (touch_rule a b) >>= joined_part)
 
 -- an answer by value, as it is put: 1, 2 and 3, then the lent slice, then 22 or the range
-unfoldable pub rangePut : List ℕ → RangeAnswer → Reply × List ℕ
-rangePut was a =
-    cond (early a.code) (none-under a.code, was)
+unfoldable pub range_put : List ℕ → RangeAnswer → Reply × List ℕ
+range_put was a =
+    cond (early a.code) (none_under a.code, was)
     (cond (length was == 417)
-    (cond (a.code == 0) (rangeBytes was (done (givenSays a.found (rangeSays a.range)))) (none-under a.code, was))
-    (none-under 3, was))
+    (cond (a.code == 0) (range_bytes was (done (given_says a.found (range_says a.range)))) (none_under a.code, was))
+    (none_under 3, was))

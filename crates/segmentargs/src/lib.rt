@@ -3,7 +3,7 @@ pub mod lists;
 
 ghost use Rattle.std.specs.Prelude.{◌≡◌, true};
 ghost use Rattle.pageset.specs.Sets.{normal};
-ghost use Rattle.segmentargs.specs.Segments.{notASegment, segmentArg, notARange, rangeArg, rangePut};
+ghost use Rattle.segmentargs.specs.Segments.{not_asegment, segment_arg, not_arange, range_arg, range_put};
 
 use arguments::Reply;
 use arguments::sets::{is_early, not_a_set};
@@ -13,7 +13,7 @@ use segmentbytes::{range_form, range_read, range_write, segment_form, segment_re
 
 // A segment that is not in form.
 fn not_a_segment() -> SegmentIdx
-    ensures { result ≡ notASegment }
+    ensures { result ≡ not_asegment }
 {
     let sid = [0u8; 16];
     let pages = not_a_set();
@@ -28,7 +28,7 @@ fn not_a_segment() -> SegmentIdx
 
 // The segment that an argument spells; one that is not in form where its length or its form is wrong.
 pub fn segment_arg(b: &[u8]) -> SegmentIdx
-    ensures { result ≡ segmentArg b.now }
+    ensures { result ≡ segment_arg b.now }
 {
     if b.len() != SEGMENT {
         return not_a_segment();
@@ -41,7 +41,7 @@ pub fn segment_arg(b: &[u8]) -> SegmentIdx
 
 // A range of no bytes whose set is not in form.
 fn not_a_range() -> SegmentRange
-    ensures { result ≡ notARange }
+    ensures { result ≡ not_arange }
 {
     let sid = [0u8; 16];
     let pages = not_a_set();
@@ -55,7 +55,7 @@ fn not_a_range() -> SegmentRange
 
 // The range that an argument spells, with a set that is not in form where its own is not; one of no bytes where its length is wrong.
 pub fn range_arg(b: &[u8]) -> SegmentRange
-    ensures { result ≡ rangeArg b.now }
+    ensures { result ≡ range_arg b.now }
 {
     if b.len() != RANGE {
         return not_a_range();
@@ -77,7 +77,7 @@ pub fn range_arg(b: &[u8]) -> SegmentRange
 // A range's answer in bytes: 1, 2 or 3 of the call; 3 for a lent slice of another length; 22; nothing; or the range.
 pub fn put_range(a: RangeAnswer, out: &mut [u8]) -> Reply
     requires { normal a.range.pages ≡ true }
-    ensures { (result, out.new) ≡ rangePut out.old a }
+    ensures { (result, out.new) ≡ range_put out.old a }
 {
     let code = a.code;
     if is_early(code) {

@@ -2,18 +2,18 @@
 ghost use Rattle.std.specs.Prelude.{◌≡◌, ◌+◌, ◌*◌, ◌<◌, ◌≤◌, true, length};
 ghost use Rattle.octets.specs.Bytes.{put};
 ghost use Rattle.octets.specs.Flat.{flat};
-ghost use Rattle.rules.specs.Forms.{segmentForm};
+ghost use Rattle.rules.specs.Forms.{segment_form};
 ghost use Rattle.rules.specs.Frames.{parts_of};
-ghost use Rattle.commit.specs.Says.{frameSays};
-ghost use Rattle.frames.specs.Rules.{listRule};
-ghost use Rattle.layout.specs.Values.{partBytes};
-ghost use Rattle.resultlists.specs.Lists.{roomed, listLeft};
-ghost use Rattle.segmentargs.specs.Segments.{segmentArg};
-ghost use Rattle.segmentargs.specs.Lists.{segmentIn, Nth, runIn, IsFrame};
+ghost use Rattle.commit.specs.Says.{frame_says};
+ghost use Rattle.frames.specs.Rules.{list_rule};
+ghost use Rattle.layout.specs.Values.{part_bytes};
+ghost use Rattle.resultlists.specs.Lists.{roomed, list_left};
+ghost use Rattle.segmentargs.specs.Segments.{segment_arg};
+ghost use Rattle.segmentargs.specs.Lists.{segment_in, Nth, run_in, IsFrame};
 
 use arguments::Reply;
 use commit::{Frame, SegmentRange};
-use core::pageidx::PageIdx;
+use basics::pageidx::PageIdx;
 use frames::Run;
 use layout::{RANGE, SEGMENT};
 use octets::{load_id, load32, load64};
@@ -24,8 +24,8 @@ use setbytes::set_read;
 
 // Entry k, counted from 0, of the frames of the segment at a place: a size and a last page.
 fn entry_in(b: &[u8], at: usize, k: usize) -> Frame
-    requires { (at + 594 ≤ length b.now) × (k < length (segmentIn at b.now).frames) }
-    ensures { Nth (segmentIn at b.now).frames k (frameSays result) }
+    requires { (at + 594 ≤ length b.now) × (k < length (segment_in at b.now).frames) }
+    ensures { Nth (segment_in at b.now).frames k (frame_says result) }
 {
     let from = at + 402 + k * 12;
     let size = load64(b, from);
@@ -36,8 +36,8 @@ fn entry_in(b: &[u8], at: usize, k: usize) -> Frame
 // Where frame k of the segment in form at a place lies: one walk that adds the sizes and carries the page before the next frame. The first frame may start at page 1:
 // it holds the same pages as from the set's first page on.
 fn run_in(b: &[u8], at: usize, k: usize) -> Run
-    requires { (at + 594 ≤ length b.now) × (segmentForm (segmentIn at b.now) ≡ true) × (k < length (segmentIn at b.now).frames) }
-    ensures { Nth (parts_of (segmentIn at b.now)) k (runIn (segmentIn at b.now) result) × (0 < result.first.0) }
+    requires { (at + 594 ≤ length b.now) × (segment_form (segment_in at b.now) ≡ true) × (k < length (segment_in at b.now).frames) }
+    ensures { Nth (parts_of (segment_in at b.now)) k (run_in (segment_in at b.now) result) × (0 < result.first.0) }
 {
     let mut below: u32 = 0;
     let mut start: u64 = 0;
@@ -62,8 +62,8 @@ fn run_in(b: &[u8], at: usize, k: usize) -> Run
 
 // Frame k, counted from 0, of the segment in form at a place: its bytes, and the pages of the segment's set from its first page to its last.
 pub fn frame_in(b: &[u8], at: usize, k: usize) -> SegmentRange
-    requires { (at + 594 ≤ length b.now) × (segmentForm (segmentIn at b.now) ≡ true) × (k < length (segmentIn at b.now).frames) }
-    ensures { IsFrame (parts_of (segmentIn at b.now)) k result }
+    requires { (at + 594 ≤ length b.now) × (segment_form (segment_in at b.now) ≡ true) × (k < length (segment_in at b.now).frames) }
+    ensures { IsFrame (parts_of (segment_in at b.now)) k result }
 {
     let run = run_in(b, at, k);
     let first = run.first;
@@ -80,9 +80,9 @@ pub fn frame_in(b: &[u8], at: usize, k: usize) -> SegmentRange
 
 // The n frames of a segment in form, one after another from the start of the list on.
 fn write_frames(list: &mut [u8], b: &[u8], n: usize)
-    requires in_bounds { (594 ≤ length b.now) × (segmentForm (segmentIn 0 b.now) ≡ true) × (n ≡ length (segmentIn 0 b.now).frames) }
+    requires in_bounds { (594 ≤ length b.now) × (segment_form (segment_in 0 b.now) ≡ true) × (n ≡ length (segment_in 0 b.now).frames) }
     requires n_in_bounds { n * 417 ≤ length list.old }
-    ensures { list.new ≡ put 0 (flat partBytes.spell (parts_of (segmentIn 0 b.now))) list.old }
+    ensures { list.new ≡ put 0 (flat part_bytes.spell (parts_of (segment_in 0 b.now))) list.old }
 {
     let mut i: usize = 0;
     while i < n {
@@ -94,7 +94,7 @@ fn write_frames(list: &mut [u8], b: &[u8], n: usize)
 
 // The frames of a segment in bytes into a lent list of ranges, and their number: 3, 19.
 pub fn frame_list(b: &[u8], list: &mut [u8], items: &mut u32) -> Reply
-    ensures { (result, (list.new, items.new)) ≡ listLeft partBytes list.old items.old (roomed partBytes list.old (listRule (segmentArg b.now))) }
+    ensures { (result, (list.new, items.new)) ≡ list_left part_bytes list.old items.old (roomed part_bytes list.old (list_rule (segment_arg b.now))) }
 {
     if b.len() != SEGMENT {
         return Reply { code: 3, found: 0 };

@@ -6,63 +6,63 @@ use Rattle.pageset.specs.declared.PageSet.{PageSet}
 use Rattle.pageset.specs.Sets.{normal}
 use Rattle.rules.specs.Records as R
 use Rattle.rules.specs.Frames.{Part}
-use Rattle.rules.specs.Forms.{idForm, segmentForm}
+use Rattle.rules.specs.Forms.{id_form, segment_form}
 use Rattle.commit.specs.declared.SegmentIdx.{SegmentIdx}
 use Rattle.commit.specs.declared.SegmentRange.{SegmentRange}
-use Rattle.commit.specs.Builders.{newSegment}
-use Rattle.commit.specs.Says.{segmentSays, rangeSays}
-use Rattle.layout.specs.Codecs.{inForm}
-use Rattle.layout.specs.Values.{windowBytes, setBytes, frameBytes, framesBytes, segmentBytes, partBytes}
-use Rattle.layout.proofs.FormHolds.{segment-held, part_held}
-use Rattle.pageset.proofs.FormLaws.{shown-form}
-use Rattle.setbytes.proofs.LaidLaws.{says-laid, laid-says}
-use Rattle.setbytes.proofs.TripLaws.{read_again, written-again}
-use Rattle.segmentbytes.specs.Laid.{segmentLaid, rangeLaid, part_form, IsLaid}
-use Rattle.segmentbytes.proofs.FrameLaws.{says-frames}
+use Rattle.commit.specs.Builders.{new_segment}
+use Rattle.commit.specs.Says.{segment_says, range_says}
+use Rattle.layout.specs.Codecs.{in_form}
+use Rattle.layout.specs.Values.{window_bytes, set_bytes, frame_bytes, frames_bytes, segment_bytes, part_bytes}
+use Rattle.layout.proofs.FormHolds.{segment_held, part_held}
+use Rattle.pageset.proofs.FormLaws.{shown_form}
+use Rattle.setbytes.proofs.LaidLaws.{says_laid, laid_says}
+use Rattle.setbytes.proofs.TripLaws.{read_again, written_again}
+use Rattle.segmentbytes.specs.Laid.{segment_laid, range_laid, part_form, IsLaid}
+use Rattle.segmentbytes.proofs.FrameLaws.{says_frames}
 
 -- ---- what is said
 
-pub segment-says : (v : R.Segment) → segmentSays (segmentLaid v) ≡ v
-segment-says v =
-    ap₂ {C = R.Segment} (λ (ws : R.Pages) (fs : List R.Frame). record { sid = v.sid; pages = ws; frames = fs }) (says-laid v.pages) (says-frames v.frames (length v.frames) refl)
+pub segment_says_lem : (v : R.Segment) → segment_says (segment_laid v) ≡ v
+segment_says_lem v =
+    ap₂ {C = R.Segment} (λ (ws : R.Pages) (fs : List R.Frame). record { sid = v.sid; pages = ws; frames = fs }) (says_laid v.pages) (says_frames v.frames (length v.frames) refl)
 
-range-says : (p : Part) → rangeSays (rangeLaid p) ≡ p
-range-says p = ap (λ (ws : R.Pages). record { sid = p.sid; start = p.start; end = p.end; pages = ws }) (says-laid p.pages)
+range_says_lem : (p : Part) → range_says (range_laid p) ≡ p
+range_says_lem p = ap (λ (ws : R.Pages). record { sid = p.sid; start = p.start; end = p.end; pages = ws }) (says_laid p.pages)
 
 -- a segment is laid out where its set is in normal form and its frames are laid out; so is one without frames
-segment-laid : (x : SegmentIdx) → normal x.pages ≡ true → IsLaid x.len x.frames → segmentLaid (segmentSays x) ≡ x
-segment-laid x e f =
-    let p = laid-says x.pages e in
+segment_laid_lem : (x : SegmentIdx) → normal x.pages ≡ true → IsLaid x.len x.frames → segment_laid (segment_says x) ≡ x
+segment_laid_lem x e f =
+    let p = laid_says x.pages e in
     let n = f.count in
     let a = f.array in
     λ j. record { sid = x.sid; pages = p j; len = n j; frames = a j }
 
-pub new-laid : (sid : List ℕ) (pages : PageSet) → normal pages ≡ true → segmentLaid (segmentSays (newSegment sid pages)) ≡ newSegment sid pages
-new-laid sid pages e = segment-laid (newSegment sid pages) e (record { count = refl; array = refl })
+pub new_laid : (sid : List ℕ) (pages : PageSet) → normal pages ≡ true → segment_laid (segment_says (new_segment sid pages)) ≡ new_segment sid pages
+new_laid sid pages e = segment_laid_lem (new_segment sid pages) e (record { count = refl; array = refl })
 
-pub range-laid : (x : SegmentRange) → normal x.pages ≡ true → rangeLaid (rangeSays x) ≡ x
-range-laid x e =
-    let p = laid-says x.pages e in
+pub range_laid_lem : (x : SegmentRange) → normal x.pages ≡ true → range_laid (range_says x) ≡ x
+range_laid_lem x e =
+    let p = laid_says x.pages e in
     λ j. record { sid = x.sid; start = x.start; end = x.end; pages = p j }
 
 -- ---- the round trips
 
 module _ (s : List ℕ) (at : ℕ) where
-  pub segment-read-again : at + 594 ≤ length s → (x : SegmentIdx) → segmentForm (segmentSays x) ≡ true → segmentLaid (segmentSays x) ≡ x
-      → segmentLaid (segmentBytes.read (part at 594 (put at (segmentBytes.spell (segmentSays x)) s))) ≡ x
-  unfolding segmentBytes setBytes windowBytes framesBytes frameBytes
-  segment-read-again h x f e = read_again segmentBytes segmentSays segmentLaid s at h x (segment-held (segmentSays x) f) e
+  pub segment_read_again : at + 594 ≤ length s → (x : SegmentIdx) → segment_form (segment_says x) ≡ true → segment_laid (segment_says x) ≡ x
+      → segment_laid (segment_bytes.read (part at 594 (put at (segment_bytes.spell (segment_says x)) s))) ≡ x
+  unfolding segment_bytes set_bytes window_bytes frames_bytes frame_bytes
+  segment_read_again h x f e = read_again segment_bytes segment_says segment_laid s at h x (segment_held (segment_says x) f) e
 
-  pub segment-written-again : at + 594 ≤ length s → inForm segmentBytes segmentForm (part at 594 s) ≡ true
-      → put at (segmentBytes.spell (segmentSays (segmentLaid (segmentBytes.read (part at 594 s))))) s ≡ s
-  unfolding segmentBytes setBytes windowBytes framesBytes frameBytes
-  segment-written-again h f = written-again segmentBytes segmentSays segmentLaid s at h segmentForm f (segment-says (segmentBytes.read (part at 594 s)))
+  pub segment_written_again : at + 594 ≤ length s → in_form segment_bytes segment_form (part at 594 s) ≡ true
+      → put at (segment_bytes.spell (segment_says (segment_laid (segment_bytes.read (part at 594 s))))) s ≡ s
+  unfolding segment_bytes set_bytes window_bytes frames_bytes frame_bytes
+  segment_written_again h f = written_again segment_bytes segment_says segment_laid s at h segment_form f (segment_says_lem (segment_bytes.read (part at 594 s)))
 
-  pub range-read-again : at + 417 ≤ length s → (x : SegmentRange) → idForm x.sid ≡ true → x.start < 256 ^ 8 → x.end < 256 ^ 8 → normal x.pages ≡ true
-      → rangeLaid (partBytes.read (part at 417 (put at (partBytes.spell (rangeSays x)) s))) ≡ x
-  unfolding partBytes setBytes windowBytes
-  range-read-again h x i b e n = read_again partBytes rangeSays rangeLaid s at h x (part_held (rangeSays x) i b e (shown-form x.pages n)) (range-laid x n)
+  pub range_read_again : at + 417 ≤ length s → (x : SegmentRange) → id_form x.sid ≡ true → x.start < 256 ^ 8 → x.end < 256 ^ 8 → normal x.pages ≡ true
+      → range_laid (part_bytes.read (part at 417 (put at (part_bytes.spell (range_says x)) s))) ≡ x
+  unfolding part_bytes set_bytes window_bytes
+  range_read_again h x i b e n = read_again part_bytes range_says range_laid s at h x (part_held (range_says x) i b e (shown_form x.pages n)) (range_laid_lem x n)
 
-  pub range-written-again : at + 417 ≤ length s → inForm partBytes part_form (part at 417 s) ≡ true → put at (partBytes.spell (rangeSays (rangeLaid (partBytes.read (part at 417 s))))) s ≡ s
-  unfolding partBytes setBytes windowBytes
-  range-written-again h f = written-again partBytes rangeSays rangeLaid s at h part_form f (range-says (partBytes.read (part at 417 s)))
+  pub range_written_again : at + 417 ≤ length s → in_form part_bytes part_form (part at 417 s) ≡ true → put at (part_bytes.spell (range_says (range_laid (part_bytes.read (part at 417 s))))) s ≡ s
+  unfolding part_bytes set_bytes window_bytes
+  range_written_again h f = written_again part_bytes range_says range_laid s at h part_form f (range_says_lem (part_bytes.read (part at 417 s)))

@@ -2,23 +2,23 @@
 ghost use Rattle.std.specs.Prelude.{◌≡◌, ◌+◌, ◌-◌, ◌*◌, ◌≤◌, ◌++◌, map, length, take, replicate};
 ghost use Rattle.octets.specs.Bytes.{part, put};
 ghost use Rattle.octets.specs.Flat.{flat};
-ghost use Rattle.std.specs.Int.{lastLsn};
-ghost use Rattle.commit.specs.Builders.{zeroFrame};
-ghost use Rattle.commit.specs.Says.{frameSays};
-ghost use Rattle.layout.specs.Codecs.{Codec, inForm};
-ghost use Rattle.layout.specs.Values.{frameBytes, framesBytes};
-ghost use Rattle.segmentbytes.specs.Laid.{framesAt, frameLaid, framesLaid, IsLaid};
-ghost use Rattle.segmentbytes.specs.Domain.{domain, framesFrom};
+ghost use Rattle.basics.specs.Numbers.{last_lsn};
+ghost use Rattle.commit.specs.Builders.{zero_frame};
+ghost use Rattle.commit.specs.Says.{frame_says};
+ghost use Rattle.layout.specs.Codecs.{Codec, in_form};
+ghost use Rattle.layout.specs.Values.{frame_bytes, frames_bytes};
+ghost use Rattle.segmentbytes.specs.Laid.{frames_at, frame_laid, frames_laid, IsLaid};
+ghost use Rattle.segmentbytes.specs.Domain.{domain, frames_from};
 
 use commit::{Frame, no_frames};
-use core::pageidx::PageIdx;
+use basics::pageidx::PageIdx;
 use octets::{all_zero, load8, load32, load64, store8, store32, store64};
 use setbytes::count_read;
 
 // The frame at a place.
 fn frame_read(s: &[u8], at: usize) -> Frame
     requires { at + 12 ≤ length s.now }
-    ensures { result ≡ frameLaid (frameBytes.read (part at 12 s.now)) }
+    ensures { result ≡ frame_laid (frame_bytes.read (part at 12 s.now)) }
 {
     let size = load64(s, at);
     let last = PageIdx(load32(s, at + 8));
@@ -28,7 +28,7 @@ fn frame_read(s: &[u8], at: usize) -> Frame
 // A frame over the 12 bytes at a place.
 fn frame_write(s: &mut [u8], at: usize, f: Frame)
     requires { at + 12 ≤ length s.old }
-    ensures { s.new ≡ put at (frameBytes.spell (frameSays f)) s.old }
+    ensures { s.new ≡ put at (frame_bytes.spell (frame_says f)) s.old }
 {
     store64(s, at, f.size);
     store32(s, at + 8, f.last.0);
@@ -37,7 +37,7 @@ fn frame_write(s: &mut [u8], at: usize, f: Frame)
 // Whether the last pages of the n frames from a place on strictly rise from the page after `start` on, and their sizes sum to at most 2^64-1.
 fn in_domain(s: &[u8], at: usize, n: usize, start: u32) -> bool
     requires { (n ≤ 16) × (at + n * 12 ≤ length s.now) }
-    ensures { result ≡ domain (start + 1) lastLsn (framesAt n at s.now) }
+    ensures { result ≡ domain (start + 1) last_lsn (frames_at n at s.now) }
 {
     let mut below = start;
     let mut room: u64 = 18446744073709551615;
@@ -60,7 +60,7 @@ fn in_domain(s: &[u8], at: usize, n: usize, start: u32) -> bool
 // Whether the 193 bytes at a place are those of at most 16 frames whose last pages rise from the page after `start` on, within the sum of sizes.
 pub fn frames_form(s: &[u8], at: usize, start: u32) -> bool
     requires { at + 193 ≤ length s.now }
-    ensures { result ≡ inForm framesBytes (framesFrom (start + 1)) (part at 193 s.now) }
+    ensures { result ≡ in_form frames_bytes (frames_from (start + 1)) (part at 193 s.now) }
 {
     let n = load8(s, at) as usize;
     if 16 < n {
@@ -75,7 +75,7 @@ pub fn frames_form(s: &[u8], at: usize, start: u32) -> bool
 // The number of frames that the 193 bytes at a place spell.
 pub fn frames_count(s: &[u8], at: usize) -> usize
     requires { at + 193 ≤ length s.now }
-    ensures { result ≡ length (framesBytes.read (part at 193 s.now)) }
+    ensures { result ≡ length (frames_bytes.read (part at 193 s.now)) }
 {
     count_read(s, at, 16)
 }
@@ -83,7 +83,7 @@ pub fn frames_count(s: &[u8], at: usize) -> usize
 // The frames that the 193 bytes at a place spell, in an array; zero past them.
 pub fn frames_read(s: &[u8], at: usize) -> [Frame; 16]
     requires { at + 193 ≤ length s.now }
-    ensures { result ≡ framesLaid (framesBytes.read (part at 193 s.now)) }
+    ensures { result ≡ frames_laid (frames_bytes.read (part at 193 s.now)) }
 {
     let n = count_read(s, at, 16);
     let mut fs = no_frames();
@@ -99,7 +99,7 @@ pub fn frames_read(s: &[u8], at: usize) -> [Frame; 16]
 // All frames of an array over the 192 bytes at a place.
 fn all_write(s: &mut [u8], at: usize, fs: [Frame; 16])
     requires { at + 192 ≤ length s.old }
-    ensures { s.new ≡ put at (flat (λ f. frameBytes.spell (frameSays f)) fs) s.old }
+    ensures { s.new ≡ put at (flat (λ f. frame_bytes.spell (frame_says f)) fs) s.old }
 {
     let mut i: usize = 0;
     while i < 16 {
@@ -113,7 +113,7 @@ fn all_write(s: &mut [u8], at: usize, fs: [Frame; 16])
 pub fn frames_write(s: &mut [u8], at: usize, n: usize, fs: [Frame; 16])
     requires at_in_bounds { at + 193 ≤ length s.old }
     requires laid { IsLaid n fs }
-    ensures { s.new ≡ put at (framesBytes.spell (map frameSays (take n fs))) s.old }
+    ensures { s.new ≡ put at (frames_bytes.spell (map frame_says (take n fs))) s.old }
 {
     store8(s, at, n as u8);
     all_write(s, at + 1, fs);

@@ -4,23 +4,23 @@ pub mod frames;
 
 ghost use Rattle.std.specs.Prelude.{◌≡◌, ◌+◌, ◌≤◌, true, length};
 ghost use Rattle.octets.specs.Bytes.{part, put};
-ghost use Rattle.pageset.specs.Sets.{normalForm};
-ghost use Rattle.rules.specs.Forms.{startPage, segmentForm};
-ghost use Rattle.commit.specs.Says.{segmentSays, rangeSays};
-ghost use Rattle.layout.specs.Codecs.{Codec, inForm};
-ghost use Rattle.layout.specs.Values.{setBytes, segmentBytes, partBytes};
-ghost use Rattle.segmentbytes.specs.Laid.{segmentLaid, rangeLaid, part_form};
+ghost use Rattle.pageset.specs.Sets.{normal_form};
+ghost use Rattle.rules.specs.Forms.{start_page, segment_form};
+ghost use Rattle.commit.specs.Says.{segment_says, range_says};
+ghost use Rattle.layout.specs.Codecs.{Codec, in_form};
+ghost use Rattle.layout.specs.Values.{set_bytes, segment_bytes, part_bytes};
+ghost use Rattle.segmentbytes.specs.Laid.{segment_laid, range_laid, part_form};
 
 use commit::{SegmentIdx, SegmentRange};
-use core::page_count::MaybePage;
+use basics::page_count::MaybePage;
 use octets::{load_id, load64, store_id, store64};
 use setbytes::{set_first, set_form, set_read, set_write};
 
 // The number before the page at which frame 1 starts: the first page of a set in form, or page 1 where it has none.
 fn before_first(s: &[u8], at: usize) -> u32
     requires at_in_bounds { at + 385 ≤ length s.now }
-    requires s_value { inForm setBytes normalForm (part at 385 s.now) ≡ true }
-    ensures { result + 1 ≡ startPage (setBytes.read (part at 385 s.now)) }
+    requires s_value { in_form set_bytes normal_form (part at 385 s.now) ≡ true }
+    ensures { result + 1 ≡ start_page (set_bytes.read (part at 385 s.now)) }
 {
     let first = set_first(s, at);
     match first {
@@ -32,7 +32,7 @@ fn before_first(s: &[u8], at: usize) -> u32
 // Whether the 594 bytes at a place are those of a segment in form.
 pub fn segment_form(s: &[u8], at: usize) -> bool
     requires { at + 594 ≤ length s.now }
-    ensures { result ≡ inForm segmentBytes segmentForm (part at 594 s.now) }
+    ensures { result ≡ in_form segment_bytes segment_form (part at 594 s.now) }
 {
     if !set_form(s, at + 16) {
         return false;
@@ -44,7 +44,7 @@ pub fn segment_form(s: &[u8], at: usize) -> bool
 // The segment that the 594 bytes at a place spell.
 pub fn segment_read(s: &[u8], at: usize) -> SegmentIdx
     requires { at + 594 ≤ length s.now }
-    ensures { result ≡ segmentLaid (segmentBytes.read (part at 594 s.now)) }
+    ensures { result ≡ segment_laid (segment_bytes.read (part at 594 s.now)) }
 {
     let sid = load_id(s, at);
     let pages = set_read(s, at + 16);
@@ -61,8 +61,8 @@ pub fn segment_read(s: &[u8], at: usize) -> SegmentIdx
 // A segment, zero past what counts, over the 594 bytes at a place.
 pub fn segment_write(s: &mut [u8], at: usize, x: SegmentIdx)
     requires at_in_bounds { at + 594 ≤ length s.old }
-    requires x_value { segmentLaid (segmentSays x) ≡ x }
-    ensures { s.new ≡ put at (segmentBytes.spell (segmentSays x)) s.old }
+    requires x_value { segment_laid (segment_says x) ≡ x }
+    ensures { s.new ≡ put at (segment_bytes.spell (segment_says x)) s.old }
 {
     let sid = x.sid;
     let pages = x.pages;
@@ -75,7 +75,7 @@ pub fn segment_write(s: &mut [u8], at: usize, x: SegmentIdx)
 // Whether the 417 bytes at a place are those of a range whose set is in form.
 pub fn range_form(s: &[u8], at: usize) -> bool
     requires { at + 417 ≤ length s.now }
-    ensures { result ≡ inForm partBytes part_form (part at 417 s.now) }
+    ensures { result ≡ in_form part_bytes part_form (part at 417 s.now) }
 {
     set_form(s, at + 32)
 }
@@ -83,7 +83,7 @@ pub fn range_form(s: &[u8], at: usize) -> bool
 // The range that the 417 bytes at a place spell.
 pub fn range_read(s: &[u8], at: usize) -> SegmentRange
     requires { at + 417 ≤ length s.now }
-    ensures { result ≡ rangeLaid (partBytes.read (part at 417 s.now)) }
+    ensures { result ≡ range_laid (part_bytes.read (part at 417 s.now)) }
 {
     let sid = load_id(s, at);
     let start = load64(s, at + 16);
@@ -100,8 +100,8 @@ pub fn range_read(s: &[u8], at: usize) -> SegmentRange
 // A range, its set zero past what counts, over the 417 bytes at a place.
 pub fn range_write(s: &mut [u8], at: usize, x: SegmentRange)
     requires at_in_bounds { at + 417 ≤ length s.old }
-    requires x_value { rangeLaid (rangeSays x) ≡ x }
-    ensures { s.new ≡ put at (partBytes.spell (rangeSays x)) s.old }
+    requires x_value { range_laid (range_says x) ≡ x }
+    ensures { s.new ≡ put at (part_bytes.spell (range_says x)) s.old }
 {
     let sid = x.sid;
     let pages = x.pages;

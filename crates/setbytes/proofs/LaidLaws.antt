@@ -2,58 +2,58 @@
 use Rattle.std.proofs.Common.{◌≡◌, ℕ, ◌+◌, ◌-◌, ◌≤◌, true, not, ◌&&◌, leb, length, drop, replicate, refl, ap, ◌∙◌, arith, length-append, length-take, take_at, drop_at, eq-eqb, le-leb, leb-true}
 use lib.ListN.{length-replicate}
 use Rattle.pageset.specs.declared.PageSet.{PageSet}
-use Rattle.pageset.specs.Sets.{holds, rising, windowForms, normalForm, shown, zeroWindow, blank, normal}
-use Rattle.pageset.proofs.FormLaws.{and-fst, and_both, Tidy, normal-fact, blank-test, shown-length}
-pub use Rattle.pageset.proofs.FormLaws.{shown-form}
-use Rattle.pageset.proofs.WalkLaws.{tidy-known}
+use Rattle.pageset.specs.Sets.{holds, rising, window_forms, normal_form, shown, zero_window, blank, normal}
+use Rattle.pageset.proofs.FormLaws.{and_fst, and_both, Tidy, normal_fact, blank_test, shown_length}
+pub use Rattle.pageset.proofs.FormLaws.{shown_form}
+use Rattle.pageset.proofs.WalkLaws.{tidy_known}
 use Rattle.rules.specs.Records.{Pages}
-use Rattle.setbytes.specs.Laid.{setLaid}
+use Rattle.setbytes.specs.Laid.{set_laid}
 
 -- ---- windows, and the set of them
 
-pub says-laid : (ws : Pages) → shown (setLaid ws) ≡ ws
-says-laid ws = take_at ws (replicate (32 - length ws) zeroWindow) (length ws) refl
+pub says_laid : (ws : Pages) → shown (set_laid ws) ≡ ws
+says_laid ws = take_at ws (replicate (32 - length ws) zero_window) (length ws) refl
 
 module _ (ws : Pages) (h : length ws ≤ 32) where
-  long : length (setLaid ws).windows ≡ 32
-  long = length-append ws (replicate (32 - length ws) zeroWindow) ∙ ap (λ (n : ℕ). length ws + n) (length-replicate (32 - length ws) zeroWindow) ∙ omega arith
+  long : length (set_laid ws).windows ≡ 32
+  long = length-append ws (replicate (32 - length ws) zero_window) ∙ ap (λ (n : ℕ). length ws + n) (length-replicate (32 - length ws) zero_window) ∙ omega arith
 
-  rest : drop (length ws) (setLaid ws).windows ≡ replicate (32 - length ws) zeroWindow
-  rest = drop_at ws (replicate (32 - length ws) zeroWindow) (length ws) refl
+  rest : drop (length ws) (set_laid ws).windows ≡ replicate (32 - length ws) zero_window
+  rest = drop_at ws (replicate (32 - length ws) zero_window) (length ws) refl
 
-  laid-tidy : Tidy (setLaid ws)
-  laid-tidy = record { short = h; whole = long; rest = rest }
+  laid_tidy : Tidy (set_laid ws)
+  laid_tidy = record { short = h; whole = long; rest = rest }
 
 -- windows in normal form are at most 32
-pub few : (ws : Pages) → normalForm ws ≡ true → length ws ≤ 32
-unfolding normalForm
+pub few : (ws : Pages) → normal_form ws ≡ true → length ws ≤ 32
+unfolding normal_form
 few ws e =
     leb-true (length ws) 32
-    (and-fst (leb (length ws) 32) (rising 0 ws) (and-fst (leb (length ws) 32 && rising 0 ws) (windowForms ws) (and-fst (leb (length ws) 32 && rising 0 ws && windowForms ws) (not (holds ws 0)) e)))
+    (and_fst (leb (length ws) 32) (rising 0 ws) (and_fst (leb (length ws) 32 && rising 0 ws) (window_forms ws) (and_fst (leb (length ws) 32 && rising 0 ws && window_forms ws) (not (holds ws 0)) e)))
 
 -- the set of windows in normal form is in normal form
-pub laid-normal : (ws : Pages) → normalForm ws ≡ true → normal (setLaid ws) ≡ true
+pub laid_normal : (ws : Pages) → normal_form ws ≡ true → normal (set_laid ws) ≡ true
 unfolding normal
-laid-normal ws e =
+laid_normal ws e =
     let h = few ws e in
     and_both _ _
-    (and_both _ _ (and_both _ _ (le-leb (length ws) 32 h) (eq-eqb _ 32 (long ws h))) (ap blank (rest ws h) ∙ blank-test (32 - length ws)))
-    (ap normalForm (says-laid ws) ∙ e)
+    (and_both _ _ (and_both _ _ (le-leb (length ws) 32 h) (eq-eqb _ 32 (long ws h))) (ap blank (rest ws h) ∙ blank_test (32 - length ws)))
+    (ap normal_form (says_laid ws) ∙ e)
 
 -- ---- a set, and what it shows
 
 module _ (s : PageSet) (e : normal s ≡ true) where
   tidy : Tidy s
-  tidy = (normal-fact s e).tidy
+  tidy = (normal_fact s e).tidy
 
   -- a set in normal form is that of the windows that it shows
-  pub laid-says : setLaid (shown s) ≡ s
-  laid-says =
-      let n = shown-length s tidy in
-      tidy-known (setLaid (shown s)) s (laid-tidy (shown s) (omega (arith, tidy.short))) tidy (says-laid (shown s))
+  pub laid_says : set_laid (shown s) ≡ s
+  laid_says =
+      let n = shown_length s tidy in
+      tidy_known (set_laid (shown s)) s (laid_tidy (shown s) (omega (arith, tidy.short))) tidy (says_laid (shown s))
 
 -- a set that is laid out counts at most as many windows as there are
-pub laid-few : (s : PageSet) → setLaid (shown s) ≡ s → length s.windows ≡ 32 → s.len ≤ 32
-laid-few s e l =
+pub laid_few : (s : PageSet) → set_laid (shown s) ≡ s → length s.windows ≡ 32 → s.len ≤ 32
+laid_few s e l =
     let n : length (shown s) ≡ s.len = ap (λ (t : PageSet). t.len) e in
     omega (arith, length-take s.len s.windows)

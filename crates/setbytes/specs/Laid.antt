@@ -2,15 +2,15 @@
 use Rattle.std.specs.Prelude.{ℕ, ◌-◌, List, ◌++◌, map, length, replicate}
 use Rattle.table.specs.Table.{runs}
 use Rattle.pageset.specs.declared.PageSet.{PageSet}
-use Rattle.pageset.specs.Sets.{zeroWindow}
+use Rattle.pageset.specs.Sets.{zero_window}
 use Rattle.rules.specs.Records.{Pages}
 use Rattle.layout.specs.Codecs.{Codec}
-use Rattle.layout.specs.Values.{windowBytes}
+use Rattle.layout.specs.Values.{window_bytes}
 
 -- the n windows that stand at a place
 unfoldable pub windows_at : ℕ → ℕ → List ℕ → Pages
-windows_at n at s = map windowBytes.read (runs n 12 at s)
+windows_at n at s = map window_bytes.read (runs n 12 at s)
 
 -- the set of these windows; the places past them are zero
-abbrev pub setLaid : Pages → PageSet
-setLaid ws = record { len = length ws; windows = ws ++ replicate (32 - length ws) zeroWindow }
+abbrev pub set_laid : Pages → PageSet
+set_laid ws = record { len = length ws; windows = ws ++ replicate (32 - length ws) zero_window }

@@ -2,22 +2,22 @@
 ghost use Rattle.std.specs.Prelude.{◌≡◌, ◌+◌, ◌-◌, ◌*◌, ◌≤◌, min, true, ◌&&◌, ◌++◌, length, replicate};
 ghost use Rattle.octets.specs.Bytes.{be, part, put};
 ghost use Rattle.octets.specs.Flat.{flat};
-ghost use Rattle.std.specs.Says.{maybePageSays};
-ghost use Rattle.pageset.specs.Sets.{shown, holds, rising, windowForms, normalForm, zeroWindow};
-ghost use Rattle.rules.specs.Pages.{firstPage};
-ghost use Rattle.layout.specs.Codecs.{Codec, inForm};
-ghost use Rattle.layout.specs.Values.{windowBytes, setBytes};
-ghost use Rattle.setbytes.specs.Laid.{windows_at, setLaid};
+ghost use Rattle.basics.specs.Says.{maybe_page_says};
+ghost use Rattle.pageset.specs.Sets.{shown, holds, rising, window_forms, normal_form, zero_window};
+ghost use Rattle.rules.specs.Pages.{first_page};
+ghost use Rattle.layout.specs.Codecs.{Codec, in_form};
+ghost use Rattle.layout.specs.Values.{window_bytes, set_bytes};
+ghost use Rattle.setbytes.specs.Laid.{windows_at, set_laid};
 
-use core::page_count::MaybePage;
-use core::pageidx::PageIdx;
+use basics::page_count::MaybePage;
+use basics::pageidx::PageIdx;
 use octets::{all_zero, load8, load32, load64, store8, store32, store64};
 use pageset::{PageSet, Window};
 
 // The window at a place.
 fn window_read(s: &[u8], at: usize) -> Window
     requires { at + 12 ≤ length s.now }
-    ensures { result ≡ windowBytes.read (part at 12 s.now) }
+    ensures { result ≡ window_bytes.read (part at 12 s.now) }
 {
     let index = load32(s, at);
     let mask = load64(s, at + 4);
@@ -27,7 +27,7 @@ fn window_read(s: &[u8], at: usize) -> Window
 // A window over the 12 bytes at a place.
 fn window_write(s: &mut [u8], at: usize, w: Window)
     requires { at + 12 ≤ length s.old }
-    ensures { s.new ≡ put at (windowBytes.spell w) s.old }
+    ensures { s.new ≡ put at (window_bytes.spell w) s.old }
 {
     store32(s, at, w.index);
     store64(s, at + 4, w.mask);
@@ -48,7 +48,7 @@ pub fn count_read(s: &[u8], at: usize, limit: usize) -> usize
 // Whether the n windows from a place on strictly rise, and each holds a page.
 fn in_order(s: &[u8], at: usize, n: usize) -> bool
     requires { (n ≤ 32) × (at + n * 12 ≤ length s.now) }
-    ensures { result ≡ (rising 0 (windows_at n at s.now) && windowForms (windows_at n at s.now)) }
+    ensures { result ≡ (rising 0 (windows_at n at s.now) && window_forms (windows_at n at s.now)) }
 {
     let mut lo: u32 = 0;
     let mut i: usize = 0;
@@ -72,7 +72,7 @@ fn in_order(s: &[u8], at: usize, n: usize) -> bool
 // Whether n windows in order hold page 0: only the first can.
 fn has_page_zero(s: &[u8], at: usize, n: usize) -> bool
     requires n_in_bounds { at + n * 12 ≤ length s.now }
-    requires s_value { (rising 0 (windows_at n at s.now) && windowForms (windows_at n at s.now)) ≡ true }
+    requires s_value { (rising 0 (windows_at n at s.now) && window_forms (windows_at n at s.now)) ≡ true }
     ensures { result ≡ holds (windows_at n at s.now) 0 }
 {
     if n == 0 {
@@ -87,7 +87,7 @@ fn has_page_zero(s: &[u8], at: usize, n: usize) -> bool
 // Whether the 385 bytes at a place are those of a page set in normal form.
 pub fn set_form(s: &[u8], at: usize) -> bool
     requires { at + 385 ≤ length s.now }
-    ensures { result ≡ inForm setBytes normalForm (part at 385 s.now) }
+    ensures { result ≡ in_form set_bytes normal_form (part at 385 s.now) }
 {
     let n = load8(s, at) as usize;
     if 32 < n {
@@ -105,7 +105,7 @@ pub fn set_form(s: &[u8], at: usize) -> bool
 // The n windows from a place on, in an array; zero past them.
 fn windows_read(s: &[u8], at: usize, n: usize) -> [Window; 32]
     requires { (n ≤ 32) × (at + n * 12 ≤ length s.now) }
-    ensures { result ≡ windows_at n at s.now ++ replicate (32 - n) zeroWindow }
+    ensures { result ≡ windows_at n at s.now ++ replicate (32 - n) zero_window }
 {
     let none = Window { index: 0, mask: 0 };
     let mut ws = [none; 32];
@@ -121,7 +121,7 @@ fn windows_read(s: &[u8], at: usize, n: usize) -> [Window; 32]
 // The page set that the 385 bytes at a place spell; of a count over 32 only 32 windows.
 pub fn set_read(s: &[u8], at: usize) -> PageSet
     requires { at + 385 ≤ length s.now }
-    ensures { result ≡ setLaid (setBytes.read (part at 385 s.now)) }
+    ensures { result ≡ set_laid (set_bytes.read (part at 385 s.now)) }
 {
     let len = count_read(s, at, 32);
     let windows = windows_read(s, at + 1, len);
@@ -131,7 +131,7 @@ pub fn set_read(s: &[u8], at: usize) -> PageSet
 // All windows of an array over the 384 bytes at a place.
 fn windows_write(s: &mut [u8], at: usize, ws: [Window; 32])
     requires { at + 384 ≤ length s.old }
-    ensures { s.new ≡ put at (flat windowBytes.spell ws) s.old }
+    ensures { s.new ≡ put at (flat window_bytes.spell ws) s.old }
 {
     let mut i: usize = 0;
     while i < 32 {
@@ -144,8 +144,8 @@ fn windows_write(s: &mut [u8], at: usize, ws: [Window; 32])
 // A page set, zero past the windows that count, over the 385 bytes at a place.
 pub fn set_write(s: &mut [u8], at: usize, x: PageSet)
     requires at_in_bounds { at + 385 ≤ length s.old }
-    requires x_value { setLaid (shown x) ≡ x }
-    ensures { s.new ≡ put at (setBytes.spell (shown x)) s.old }
+    requires x_value { set_laid (shown x) ≡ x }
+    ensures { s.new ≡ put at (set_bytes.spell (shown x)) s.old }
 {
     let n = x.len;
     let ws = x.windows;
@@ -156,8 +156,8 @@ pub fn set_write(s: &mut [u8], at: usize, x: PageSet)
 // The first page of a page set in form, or nothing: trailing zeros of the first mask.
 pub fn set_first(s: &[u8], at: usize) -> MaybePage
     requires at_in_bounds { at + 385 ≤ length s.now }
-    requires s_value { inForm setBytes normalForm (part at 385 s.now) ≡ true }
-    ensures { maybePageSays result ≡ firstPage (setBytes.read (part at 385 s.now)) }
+    requires s_value { in_form set_bytes normal_form (part at 385 s.now) ≡ true }
+    ensures { maybe_page_says result ≡ first_page (set_bytes.read (part at 385 s.now)) }
 {
     if load8(s, at) == 0 {
         return MaybePage::Nothing;

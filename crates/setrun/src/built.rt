@@ -1,5 +1,5 @@
 // Ranges of up to 32 windows, each compared page by page, and ranges that are refused.
-use core::pageidx::PageIdx;
+use basics::pageidx::PageIdx;
 use plainset::tally::Tally;
 use plainset::{held, tally};
 

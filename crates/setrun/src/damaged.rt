@@ -1,6 +1,6 @@
 // Sets that are not in normal form: every call that takes a set refuses each, in the order of the numbers.
-use core::page_count::PageCount;
-use core::pageidx::PageIdx;
+use basics::page_count::PageCount;
+use basics::pageidx::PageIdx;
 use pageset::{CutAnswer, PageSet, SetAnswer, Window, sets};
 use plainset::tally::Tally;
 use plainset::{held, said, tally};

@@ -1,5 +1,5 @@
 // Pages and counts at the edges: of the numbers, of a window, and of a set.
-use core::pageidx::PageIdx;
+use basics::pageidx::PageIdx;
 use pageset::PageSet;
 use plainset::held::Held;
 use plainset::tally::Tally;

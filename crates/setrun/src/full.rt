@@ -1,5 +1,5 @@
 // Sets of 32 windows: unions and insertions that just fit, and those that need one window more.
-use core::pageidx::PageIdx;
+use basics::pageidx::PageIdx;
 use plainset::held::Held;
 use plainset::tally::Tally;
 use plainset::{held, tally};

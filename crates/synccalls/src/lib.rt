@@ -1,25 +1,25 @@
 // The calls that move a volume's sync point and its pending commit by what the logs hold: sync, and prepare of a push. Each answers on every input, 20 first.
 ghost use Rattle.std.specs.Prelude.{◌≡◌, true, ◌&&◌};
 ghost use Rattle.std.proofs.Math.Option.{some};
-ghost use Rattle.std.specs.Answers.{code};
-ghost use Rattle.std.specs.Int.{counts};
+ghost use Rattle.basics.specs.Answers.{code};
+ghost use Rattle.basics.specs.Numbers.{counts};
 ghost use Rattle.rules.specs.Lists.{is_none};
-ghost use Rattle.rules.specs.Push.{isBefore, prepare as prepareRule};
-ghost use Rattle.rules.specs.Forms.{lsnForm, volumeForm};
-ghost use Rattle.rules.specs.Tables.{latestLsn};
-ghost use Rattle.rules.specs.Snapshots.{remoteOf};
-ghost use Rattle.rules.specs.Sync.{notOlder, syncBy, sync as syncRule};
-ghost use Rattle.volume.specs.Volumes.{maybeLsnSays, syncSays, volumeSays};
-ghost use Rattle.layout.specs.Records.{volumeBytes};
-ghost use Rattle.layout.specs.Tables.{volumesIn, volumesOk, commitsIn, commitsOk};
+ghost use Rattle.rules.specs.Push.{is_before, prepare as prepareRule};
+ghost use Rattle.rules.specs.Forms.{lsn_form, volume_form};
+ghost use Rattle.rules.specs.Tables.{latest_lsn};
+ghost use Rattle.rules.specs.Snapshots.{remote_of};
+ghost use Rattle.rules.specs.Sync.{not_older, sync_by, sync as syncRule};
+ghost use Rattle.volume.specs.Volumes.{maybe_lsn_says, sync_says, volume_says};
+ghost use Rattle.layout.specs.Records.{volume_bytes};
+ghost use Rattle.layout.specs.Tables.{volumes_in, volumes_ok, commits_in, commits_ok};
 ghost use Rattle.layout.specs.Lent.{lent, after};
-ghost use Rattle.synccalls.specs.Pulls.{syncFound, Pulls};
+ghost use Rattle.synccalls.specs.Pulls.{sync_found, Pulls};
 
 use commits::{Place, commits_formed, lsn_at};
-use core::commit_hash;
-use core::commit_hash::CommitHash;
-use core::id::{LogId, VolumeId};
-use core::lsn::Lsn;
+use basics::commit_hash;
+use basics::commit_hash::CommitHash;
+use basics::id::{LogId, VolumeId};
+use basics::lsn::Lsn;
 use table::Spot;
 use viewcalls::{is_below, remote_of, watermark_of};
 use volume::volume::{ChangesAnswer, MaybeLsn, PendingCommit, Sync, SyncPoint, Volume, changes};
@@ -37,8 +37,8 @@ pub enum Pull {
 
 // The log's latest LSN, which is missing where it has no commit.
 fn latest_lsn(commits: &[u8], log: LogId) -> MaybeLsn
-    requires { commitsOk commits.now ≡ true }
-    ensures { maybeLsnSays result ≡ latestLsn (commitsIn commits.now) log }
+    requires { commits_ok commits.now ≡ true }
+    ensures { maybe_lsn_says result ≡ latest_lsn (commits_in commits.now) log }
 {
     let Place::At(i) = commits::latest(commits, log) else {
         return MaybeLsn::Missing;
@@ -50,9 +50,9 @@ fn latest_lsn(commits: &[u8], log: LogId) -> MaybeLsn
 
 // Where the remote has changes up to an LSN: the move there, unless the local log has changes too (8) or lost its watermark (16).
 fn pull_to(commits: &[u8], v: Volume, end: Lsn) -> Pull
-    requires commits_value { (commitsOk commits.now ≡ true) × (volumeForm (volumeSays v) ≡ true) }
-    requires end_value { (lsnForm end.0 ≡ true) × (notOlder (remoteOf (syncSays v.sync)) end.0 ≡ true) }
-    ensures { Pulls (λ vs. syncBy vs (commitsIn commits.now) (volumeSays v) (some (1, end.0))) (volumeSays v) result }
+    requires commits_value { (commits_ok commits.now ≡ true) × (volume_form (volume_says v) ≡ true) }
+    requires end_value { (lsn_form end.0 ≡ true) × (not_older (remote_of (sync_says v.sync)) end.0 ≡ true) }
+    ensures { Pulls (λ vs. sync_by vs (commits_in commits.now) (volume_says v) (some (1, end.0))) (volume_says v) result }
 {
     let sync = v.sync;
     let local = v.local;
@@ -67,8 +67,8 @@ fn pull_to(commits: &[u8], v: Volume, end: Lsn) -> Pull
 
 // What sync does with a volume. Without changes of the remote nothing, and the local log is not looked at.
 fn pull_of(commits: &[u8], v: Volume) -> Pull
-    requires { (commitsOk commits.now ≡ true) × (volumeForm (volumeSays v) ≡ true) }
-    ensures { Pulls (λ vs. syncFound vs (commitsIn commits.now) (volumeSays v)) (volumeSays v) result }
+    requires { (commits_ok commits.now ≡ true) × (volume_form (volume_says v) ≡ true) }
+    ensures { Pulls (λ vs. sync_found vs (commits_in commits.now) (volume_says v)) (volume_says v) result }
 {
     let sync = v.sync;
     let remote = v.remote;
@@ -83,8 +83,8 @@ fn pull_of(commits: &[u8], v: Volume) -> Pull
 
 // A volume's sync point moved to the remote's latest: 20, 4, 16, 8.
 pub fn sync(volumes: &mut [u8], commits: &[u8], vid: VolumeId) -> u32
-    ensures value { result ≡ code (lent (volumesOk volumes.old && commitsOk commits.now) (syncRule (volumesIn volumes.old) (commitsIn commits.now) vid)) }
-    ensures volumes_after { volumes.new ≡ after volumeBytes (λ t. t) volumes.old (lent (volumesOk volumes.old && commitsOk commits.now) (syncRule (volumesIn volumes.old) (commitsIn commits.now) vid)) }
+    ensures value { result ≡ code (lent (volumes_ok volumes.old && commits_ok commits.now) (syncRule (volumes_in volumes.old) (commits_in commits.now) vid)) }
+    ensures volumes_after { volumes.new ≡ after volume_bytes (λ t. t) volumes.old (lent (volumes_ok volumes.old && commits_ok commits.now) (syncRule (volumes_in volumes.old) (commits_in commits.now) vid)) }
 {
     if !volumes_formed(volumes) {
         return 20;
@@ -123,7 +123,7 @@ fn both_count(local: u64, commit: u64) -> bool
 
 // Whether nothing is pending.
 fn none_pending(v: Volume) -> bool
-    ensures { result ≡ is_none (volumeSays v).pending }
+    ensures { result ≡ is_none (volume_says v).pending }
 {
     let pending = v.pending;
     match pending {
@@ -137,7 +137,7 @@ fn none_pending(v: Volume) -> bool
 
 // Whether an LSN is the one after a log's latest, and 1 where that is missing.
 fn is_next(latest: MaybeLsn, lsn: u64) -> bool
-    ensures { result ≡ isBefore (maybeLsnSays latest) lsn }
+    ensures { result ≡ is_before (maybe_lsn_says latest) lsn }
 {
     let MaybeLsn::At(last) = latest else {
         return lsn == 1;
@@ -157,8 +157,8 @@ pub fn prepare(
     commit: Lsn,
     hash: CommitHash,
 ) -> u32
-    ensures value { result ≡ code (lent (volumesOk volumes.old && commitsOk commits.now) (prepareRule (volumesIn volumes.old) (commitsIn commits.now) vid (record { local = local.0; commit = commit.0; hash = hash }))) }
-    ensures volumes_after { volumes.new ≡ after volumeBytes (λ t. t) volumes.old (lent (volumesOk volumes.old && commitsOk commits.now) (prepareRule (volumesIn volumes.old) (commitsIn commits.now) vid (record { local = local.0; commit = commit.0; hash = hash }))) }
+    ensures value { result ≡ code (lent (volumes_ok volumes.old && commits_ok commits.now) (prepareRule (volumes_in volumes.old) (commits_in commits.now) vid (record { local = local.0; commit = commit.0; hash = hash }))) }
+    ensures volumes_after { volumes.new ≡ after volume_bytes (λ t. t) volumes.old (lent (volumes_ok volumes.old && commits_ok commits.now) (prepareRule (volumes_in volumes.old) (commits_in commits.now) vid (record { local = local.0; commit = commit.0; hash = hash }))) }
 {
     if !volumes_formed(volumes) {
         return 20;

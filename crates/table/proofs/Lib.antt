@@ -1,5 +1,5 @@
 -- The laws that other crates cite. `Keys`: of cmp and rises; `Rows`: of runs, recs, laid and the capacity; `Spots`: of spot, put, removed and look;
--- `Checks`: of wellOrdered; `Ends`: of a table that was laid, and of one after a removal; `Runs`: of the run between two keys. `Stores`: what the stores leave.
+-- `Checks`: of well_ordered; `Ends`: of a table that was laid, and of one after a removal; `Runs`: of the run between two keys. `Stores`: what the stores leave.
 pub mod Keys
 pub mod Rows
 pub mod Stores

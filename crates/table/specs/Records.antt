@@ -2,7 +2,7 @@
 use Rattle.std.specs.Prelude.{Bool, true, ◌&&◌, List, [], ◌∷◌, ◌++◌, ℕ, suc, ◌+◌, take, drop}
 use Rattle.std.proofs.Math.Option.{Option, some, none}
 use Rattle.octets.specs.Bytes.{part}
-use Rattle.octets.specs.Order.{lex, isLess}
+use Rattle.octets.specs.Order.{lex, is_less}
 use Rattle.octets.specs.declared.Order.{Order}
 use Rattle.octets.specs.declared.Order.TheVariants.{Less, Equal, Greater}
 use Rattle.table.specs.declared.Spot.{Spot}
@@ -16,7 +16,7 @@ cmp k a b = lex (part 0 k a) (part 0 k b)
 abbrev pub rises : ℕ → List (List ℕ) → Bool
 rises k [] = true
 rises k (x ∷ []) = true
-rises k (x ∷ y ∷ rs) = isLess (cmp k x y) && rises k (y ∷ rs)
+rises k (x ∷ y ∷ rs) = is_less (cmp k x y) && rises k (y ∷ rs)
 
 -- ---- where a key stands
 
@@ -26,15 +26,15 @@ next (At i) = At (suc i)
 next (Gap i) = Gap (suc i)
 
 -- the spot by how the key and the first record's stand, and by the spot among the others
-abbrev pub spotBy : Order → Spot → Spot
-spotBy Less o = Gap 0
-spotBy Equal o = At 0
-spotBy Greater o = next o
+abbrev pub spot_by : Order → Spot → Spot
+spot_by Less o = Gap 0
+spot_by Equal o = At 0
+spot_by Greater o = next o
 
 -- where the record of that key stands, or where it would
 abbrev pub spot : ℕ → List ℕ → List (List ℕ) → Spot
 spot k key [] = Gap 0
-spot k key (x ∷ rs) = spotBy (cmp k key x) (spot k key rs)
+spot k key (x ∷ rs) = spot_by (cmp k key x) (spot k key rs)
 
 -- the first place at or after the key
 abbrev pub place : Spot → ℕ
@@ -52,15 +52,15 @@ past o = place o + hits o
 
 -- ---- the record of a key
 
-abbrev pub lookBy : Order → List ℕ → Option (List ℕ) → Option (List ℕ)
-lookBy Less x o = o
-lookBy Equal x o = some x
-lookBy Greater x o = o
+abbrev pub look_by : Order → List ℕ → Option (List ℕ) → Option (List ℕ)
+look_by Less x o = o
+look_by Equal x o = some x
+look_by Greater x o = o
 
 -- the first record of that key, if there is one
 abbrev pub look : ℕ → List ℕ → List (List ℕ) → Option (List ℕ)
 look k key [] = none
-look k key (x ∷ rs) = lookBy (cmp k key x) x (look k key rs)
+look k key (x ∷ rs) = look_by (cmp k key x) x (look k key rs)
 
 -- ---- the records after a call
 
@@ -73,12 +73,12 @@ abbrev pub removed : ℕ → List (List ℕ) → List (List ℕ)
 removed i rs = take i rs ++ drop (suc i) rs
 
 -- by how r and the first record stand, and by the others after a put of r
-abbrev pub putBy : Order → List ℕ → List ℕ → List (List ℕ) → List (List ℕ) → List (List ℕ)
-putBy Less r x rs later = r ∷ x ∷ rs
-putBy Equal r x rs later = r ∷ rs
-putBy Greater r x rs later = x ∷ later
+abbrev pub put_by : Order → List ℕ → List ℕ → List (List ℕ) → List (List ℕ) → List (List ℕ)
+put_by Less r x rs later = r ∷ x ∷ rs
+put_by Equal r x rs later = r ∷ rs
+put_by Greater r x rs later = x ∷ later
 
 -- r in the place of the record of its key, or in its place in the order
 abbrev pub put : ℕ → List ℕ → List (List ℕ) → List (List ℕ)
 put k r [] = r ∷ []
-put k r (x ∷ rs) = putBy (cmp k r x) r x rs (put k r rs)
+put k r (x ∷ rs) = put_by (cmp k r x) r x rs (put k r rs)

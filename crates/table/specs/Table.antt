@@ -36,8 +36,8 @@ unfoldable pub laid : List (List ℕ) → List ℕ → List ℕ
 laid rs t = B.put 0 (bytes_of 2 (length rs) ++ join rs) t
 
 -- t is a table of records of s bytes with keys of k: it has a count that it can hold, and its keys strictly rise
-unfoldable pub wellOrdered : ℕ → ℕ → List ℕ → Bool
-wellOrdered s k t = leb 2 (length t) && (leb (count_of t) (cap_of s t) && rises k (recs s t))
+unfoldable pub well_ordered : ℕ → ℕ → List ℕ → Bool
+well_ordered s k t = leb 2 (length t) && (leb (count_of t) (cap_of s t) && rises k (recs s t))
 
 -- t can hold n records
 unfoldable pub holds : ℕ → ℕ → List ℕ → Bool

@@ -2,7 +2,7 @@
 // whose first `klen` bytes are the key, in strictly rising byte order of keys. What lies past the last record is not part of the table.
 ghost use Rattle.std.specs.Prelude.{◌≡◌, true, ◌+◌, ◌*◌, ◌≤◌, ◌<◌, length, set};
 ghost use Rattle.table.specs.Records.{rises, spot, place, past, inserted, removed, put};
-ghost use Rattle.table.specs.Table.{runs, count_of, cap_of, recs, laid, wellOrdered, holds, fits};
+ghost use Rattle.table.specs.Table.{runs, count_of, cap_of, recs, laid, well_ordered, holds, fits};
 ghost use Rattle.table.specs.Run.{RunOf};
 
 // Where a key stands: at a record, or in the gap before one.
@@ -56,7 +56,7 @@ fn in_order(t: &[u8], stride: usize, klen: usize, n: usize) -> bool
 // Whether t is a table: a count that it can hold, and keys that strictly rise.
 pub fn well_ordered(t: &[u8], stride: usize, klen: usize) -> bool
     requires { (0 < stride) × (klen ≤ stride) }
-    ensures { result ≡ wellOrdered stride klen t.now }
+    ensures { result ≡ well_ordered stride klen t.now }
 {
     if t.len() < 2 {
         return false;
@@ -106,7 +106,7 @@ pub fn find_in(t: &[u8], stride: usize, klen: usize, n: usize, key: &[u8]) -> Sp
 // Where a key stands.
 pub fn find(t: &[u8], stride: usize, klen: usize, key: &[u8]) -> Spot
     requires stride_nonzero { (0 < stride) × (klen ≤ stride) × (klen ≤ length key.now) }
-    requires t_value { wellOrdered stride klen t.now ≡ true }
+    requires t_value { well_ordered stride klen t.now ≡ true }
     ensures { result ≡ spot klen key.now (recs stride t.now) }
 {
     find_in(t, stride, klen, count(t), key)
@@ -115,7 +115,7 @@ pub fn find(t: &[u8], stride: usize, klen: usize, key: &[u8]) -> Spot
 // The first place whose key is at or after the given one.
 pub fn from_key(t: &[u8], stride: usize, klen: usize, key: &[u8]) -> usize
     requires stride_nonzero { (0 < stride) × (klen ≤ stride) × (klen ≤ length key.now) }
-    requires t_value { wellOrdered stride klen t.now ≡ true }
+    requires t_value { well_ordered stride klen t.now ≡ true }
     ensures { (result ≡ place (spot klen key.now (recs stride t.now))) × (result ≤ count_of t.now) }
 {
     seek_in(t, stride, klen, count(t), key)
@@ -154,7 +154,7 @@ pub fn remove(t: &mut [u8], stride: usize, i: usize)
 // rec in the place of the record of its key, or in its place in the order.
 pub fn put(t: &mut [u8], stride: usize, klen: usize, rec: &[u8])
     requires stride_nonzero { (0 < stride) × (klen ≤ stride) × (length rec.now ≡ stride) }
-    requires t_value { wellOrdered stride klen t.old ≡ true }
+    requires t_value { well_ordered stride klen t.old ≡ true }
     requires t_value_2 { fits stride (put klen rec.now (recs stride t.old)) t.old ≡ true }
     ensures { t.new ≡ laid (put klen rec.now (recs stride t.old)) t.old }
 {
@@ -175,7 +175,7 @@ pub fn room_for(t: &[u8], stride: usize, more: usize) -> bool
 // Whether t has room for rec: its key is there, or one record more fits.
 pub fn room(t: &[u8], stride: usize, klen: usize, rec: &[u8]) -> bool
     requires stride_nonzero { (0 < stride) × (klen ≤ stride) × (klen ≤ length rec.now) }
-    requires t_value { wellOrdered stride klen t.now ≡ true }
+    requires t_value { well_ordered stride klen t.now ≡ true }
     ensures { result ≡ fits stride (put klen rec.now (recs stride t.now)) t.now }
 {
     match find(t, stride, klen, rec) {
@@ -187,7 +187,7 @@ pub fn room(t: &[u8], stride: usize, klen: usize, rec: &[u8]) -> bool
 // The first place whose key is after the given one.
 pub fn past_key(t: &[u8], stride: usize, klen: usize, key: &[u8]) -> usize
     requires stride_nonzero { (0 < stride) × (klen ≤ stride) × (klen ≤ length key.now) }
-    requires t_value { wellOrdered stride klen t.now ≡ true }
+    requires t_value { well_ordered stride klen t.now ≡ true }
     ensures { (result ≡ past (spot klen key.now (recs stride t.now))) × (result ≤ count_of t.now) }
 {
     match find(t, stride, klen, key) {
@@ -206,7 +206,7 @@ pub struct Run {
 // The run of the records whose keys lie from a to b, both included.
 pub fn between(t: &[u8], stride: usize, klen: usize, a: &[u8], b: &[u8]) -> Run
     requires stride_nonzero { (0 < stride) × (klen ≤ stride) × (klen ≤ length a.now) × (klen ≤ length b.now) }
-    requires t_value { wellOrdered stride klen t.now ≡ true }
+    requires t_value { well_ordered stride klen t.now ≡ true }
     ensures { RunOf stride klen a.now b.now t.now result.from result.to }
 {
     let from = from_key(t, stride, klen, a);

@@ -1,86 +1,86 @@
 -- What is left of an answer to a rule, by the cases of the rule's answer. A volume's rule does not answer 20 where its table is formed, so its own numbers come behind the lent place's 3. Assumes nothing.
 use Rattle.std.proofs.Common.{◌≡◌, ℕ, Bool, true, false, cond, eqb, List, length, sym, refl, ap, ◌∙◌, ap₂}
 use mathlib.Core.Option.{Option, none, some}
-use Rattle.std.specs.Answers.{Answer, refused, done, ask, need, ◌>>◌, ◌>>=◌}
+use Rattle.basics.specs.Answers.{Answer, refused, done, ask, need, ◌>>◌, ◌>>=◌}
 use Rattle.rules.specs.Lists.{is_some}
 use Rattle.rules.specs.Records.{Id, Volume}
-use Rattle.rules.specs.Tables.{getVolume}
-use Rattle.rules.specs.Reads.{volumeRead}
+use Rattle.rules.specs.Tables.{get_volume}
+use Rattle.rules.specs.Reads.{volume_read}
 use Rattle.layout.specs.Codecs.{Codec}
-use Rattle.layout.specs.Records.{volumeBytes}
-use Rattle.layout.specs.Tables.{volumesIn, volumesOk}
+use Rattle.layout.specs.Records.{volume_bytes}
+use Rattle.layout.specs.Tables.{volumes_in, volumes_ok}
 use Rattle.layout.specs.Lent.{lent}
-use Rattle.layout.proofs.LentLaws.{lent-yes, lent-no}
-use Rattle.volume.specs.Volumes.{volumeSays}
-use Rattle.volumebytes.proofs.RoundLaws.{says-laid}
-use Rattle.volumecalls.specs.Says.{volumeAnswer}
+use Rattle.layout.proofs.LentLaws.{lent_yes, lent_no}
+use Rattle.volume.specs.Volumes.{volume_says}
+use Rattle.volumebytes.proofs.RoundLaws.{says_laid}
+use Rattle.volumecalls.specs.Says.{volume_answer}
 use Rattle.volumecalls.proofs.Ends.{read_is}
-use Rattle.tagcalls.specs.Says.{taggedAnswer}
-use Rattle.commitcalls.specs.Says.{Answered, outAfter}
+use Rattle.tagcalls.specs.Says.{tagged_answer}
+use Rattle.commitcalls.specs.Says.{Answered, out_after}
 use Rattle.arguments.specs.declared.Reply.{Reply}
-use Rattle.arguments.specs.Replies.{none-under, given, value, valueOr, yesOrNo, placed}
-use Rattle.tablereplies.specs.Records.{volumeLeft, volumePut, taggedPut}
+use Rattle.arguments.specs.Replies.{none_under, given, value, value_or, yes_or_no, placed}
+use Rattle.tablereplies.specs.Records.{volume_left, volume_put, tagged_put}
 
 -- ---- a tag's volume
 
-pub left-tagged : (was : Id) (q : Answer (Option Id)) → taggedPut was (taggedAnswer q) ≡ valueOr (λ v. v) was q
-left-tagged was (refused n) = refl
-left-tagged was (done none) = refl
-left-tagged was (done (some v)) = refl
+pub left_tagged : (was : Id) (q : Answer (Option Id)) → tagged_put was (tagged_answer q) ≡ value_or (λ v. v) was q
+left_tagged was (refused n) = refl
+left_tagged was (done none) = refl
+left_tagged was (done (some v)) = refl
 
 -- ---- a record that the call wrote itself
 
 module _ {R : Type 0} (c : Codec R) (was : List ℕ) where
-  left_by : (q : Answer (Option R)) → (yesOrNo (q >>= (λ o. done (is_some o))), outAfter c q was) ≡ valueOr c.spell was q
+  left_by : (q : Answer (Option R)) → (yes_or_no (q >>= (λ o. done (is_some o))), out_after c q was) ≡ value_or c.spell was q
   left_by (refused n) = refl
   left_by (done none) = refl
   left_by (done (some x)) = refl
 
-  pub left-found : (q : Answer (Option R)) (found : Answer Bool) (after : List ℕ) (r : Reply) → r ≡ yesOrNo found → Answered c q found was after → (r, after) ≡ valueOr c.spell was q
-  left-found q found after r e a = ap₂ (λ (x : Reply) (b : List ℕ). (x, b)) (e ∙ ap yesOrNo a.says) a.bytes ∙ left_by q
+  pub left_found : (q : Answer (Option R)) (found : Answer Bool) (after : List ℕ) (r : Reply) → r ≡ yes_or_no found → Answered c q found was after → (r, after) ≡ value_or c.spell was q
+  left_found q found after r e a = ap₂ (λ (x : Reply) (b : List ℕ). (x, b)) (e ∙ ap yes_or_no a.says) a.bytes ∙ left_by q
 
 -- ---- a volume
 
 module _ (was : List ℕ) where
   -- past 20: the lent place, then the volume or 4
-  by_place : (b : Bool) (o : Option Volume) → let a = volumeAnswer (need o 4) in
-      cond (eqb a.code 20) (none-under a.code, was) (cond b (cond (eqb a.code 0) (given, volumeBytes.spell (volumeSays a.volume)) (none-under a.code, was)) (none-under 3, was))
-      ≡ value volumeBytes.spell was (ask b 3 >> need o 4)
+  by_place : (b : Bool) (o : Option Volume) → let a = volume_answer (need o 4) in
+      cond (eqb a.code 20) (none_under a.code, was) (cond b (cond (eqb a.code 0) (given, volume_bytes.spell (volume_says a.volume)) (none_under a.code, was)) (none_under 3, was))
+      ≡ value volume_bytes.spell was (ask b 3 >> need o 4)
   by_place true none = refl
-  by_place true (some v) = ap (λ (w : Volume). (given, volumeBytes.spell w)) (says-laid v)
+  by_place true (some v) = ap (λ (w : Volume). (given, volume_bytes.spell w)) (says_laid v)
   by_place false none = refl
   by_place false (some v) = refl
 
-  put-need : (o : Option Volume) → volumePut was (volumeAnswer (need o 4)) ≡ value volumeBytes.spell was (placed 117 was (need o 4))
-  unfolding volumePut placed
-  put-need o = by_place (eqb (length was) 117) o
+  put_need : (o : Option Volume) → volume_put was (volume_answer (need o 4)) ≡ value volume_bytes.spell was (placed 117 was (need o 4))
+  unfolding volume_put placed
+  put_need o = by_place (eqb (length was) 117) o
 
-  put-20 : volumePut was (volumeAnswer (refused 20)) ≡ (none-under 20, was)
-  unfolding volumePut
-  put-20 = refl
+  put_20 : volume_put was (volume_answer (refused 20)) ≡ (none_under 20, was)
+  unfolding volume_put
+  put_20 = refl
 
   module _ (t : List ℕ) (vid : Id) where
     abbrev rule : Answer Volume
-    rule = volumeRead (volumesIn t) vid
+    rule = volume_read (volumes_in t) vid
 
-    formed : volumesOk t ≡ true → volumePut was (volumeAnswer (lent (volumesOk t) rule)) ≡ volumeLeft was (volumesOk t) rule
+    formed : volumes_ok t ≡ true → volume_put was (volume_answer (lent (volumes_ok t) rule)) ≡ volume_left was (volumes_ok t) rule
     formed ok =
-        let o = getVolume (volumesIn t) vid in
-        let is : rule ≡ need o 4 = sym (lent-yes (volumesOk t) rule ok) ∙ read_is t vid ok in
-        ap (λ (q : Answer Volume). volumePut was (volumeAnswer q)) (read_is t vid ok)
-        ∙ put-need o
-        ∙ ap (λ (q : Answer Volume). value volumeBytes.spell was (placed 117 was q)) (sym is)
-        ∙ ap (value volumeBytes.spell was) (sym (lent-yes (volumesOk t) (placed 117 was rule) ok))
+        let o = get_volume (volumes_in t) vid in
+        let is : rule ≡ need o 4 = sym (lent_yes (volumes_ok t) rule ok) ∙ read_is t vid ok in
+        ap (λ (q : Answer Volume). volume_put was (volume_answer q)) (read_is t vid ok)
+        ∙ put_need o
+        ∙ ap (λ (q : Answer Volume). value volume_bytes.spell was (placed 117 was q)) (sym is)
+        ∙ ap (value volume_bytes.spell was) (sym (lent_yes (volumes_ok t) (placed 117 was rule) ok))
 
-    unformed : volumesOk t ≡ false → volumePut was (volumeAnswer (lent (volumesOk t) rule)) ≡ volumeLeft was (volumesOk t) rule
+    unformed : volumes_ok t ≡ false → volume_put was (volume_answer (lent (volumes_ok t) rule)) ≡ volume_left was (volumes_ok t) rule
     unformed bad =
-        ap (λ (q : Answer Volume). volumePut was (volumeAnswer q)) (lent-no (volumesOk t) rule bad)
-        ∙ put-20
-        ∙ ap (value volumeBytes.spell was) (sym (lent-no (volumesOk t) (placed 117 was rule) bad))
+        ap (λ (q : Answer Volume). volume_put was (volume_answer q)) (lent_no (volumes_ok t) rule bad)
+        ∙ put_20
+        ∙ ap (value volume_bytes.spell was) (sym (lent_no (volumes_ok t) (placed 117 was rule) bad))
 
-    either : (b : Bool) → volumesOk t ≡ b → volumePut was (volumeAnswer (lent (volumesOk t) rule)) ≡ volumeLeft was (volumesOk t) rule
+    either : (b : Bool) → volumes_ok t ≡ b → volume_put was (volume_answer (lent (volumes_ok t) rule)) ≡ volume_left was (volumes_ok t) rule
     either true e = formed e
     either false e = unformed e
 
-    pub left-volume : volumePut was (volumeAnswer (lent (volumesOk t) rule)) ≡ volumeLeft was (volumesOk t) rule
-    left-volume = either (volumesOk t) refl
+    pub left_volume : volume_put was (volume_answer (lent (volumes_ok t) rule)) ≡ volume_left was (volumes_ok t) rule
+    left_volume = either (volumes_ok t) refl

@@ -1,8 +1,8 @@
 // Answers of the calls over tables as a reply and what is lent: written where there is an answer under 0, else as found.
 ghost use Rattle.std.specs.Prelude.{◌≡◌};
-ghost use Rattle.commitcalls.specs.Says.{foundSays, maybeCountSays};
-ghost use Rattle.arguments.specs.Replies.{valueOr, yesOrNo};
-ghost use Rattle.tablereplies.specs.Records.{volumePut, taggedPut};
+ghost use Rattle.commitcalls.specs.Says.{found_says, maybe_count_says};
+ghost use Rattle.arguments.specs.Replies.{value_or, yes_or_no};
+ghost use Rattle.tablereplies.specs.Records.{volume_put, tagged_put};
 
 use arguments::Reply;
 use commitcalls::{FoundAnswer, MaybeCountAnswer};
@@ -13,7 +13,7 @@ use volumecalls::VolumeAnswer;
 
 // A volume: 20 of the call; 3 for a lent place of another length; the call's other numbers; or the volume's bytes.
 pub fn put_volume(a: VolumeAnswer, out: &mut [u8]) -> Reply
-    ensures { (result, out.new) ≡ volumePut out.old a }
+    ensures { (result, out.new) ≡ volume_put out.old a }
 {
     let code = a.code;
     if code == 20 {
@@ -32,7 +32,7 @@ pub fn put_volume(a: VolumeAnswer, out: &mut [u8]) -> Reply
 
 // The volume that a tag names, or nothing.
 pub fn put_tagged(a: TaggedAnswer, vid: &mut [u8; 16]) -> Reply
-    ensures { (result, vid.new) ≡ taggedPut vid.old a }
+    ensures { (result, vid.new) ≡ tagged_put vid.old a }
 {
     if a.found {
         let id = a.vid;
@@ -45,7 +45,7 @@ pub fn put_tagged(a: TaggedAnswer, vid: &mut [u8; 16]) -> Reply
 
 // Whether a record was found.
 pub fn found_or_not(a: FoundAnswer) -> Reply
-    ensures { result ≡ yesOrNo (foundSays a) }
+    ensures { result ≡ yes_or_no (found_says a) }
 {
     match a {
         FoundAnswer::Refused(code) => Reply { code, found: 0 },
@@ -56,7 +56,7 @@ pub fn found_or_not(a: FoundAnswer) -> Reply
 
 // A page count or nothing.
 pub fn put_maybe_count(a: MaybeCountAnswer, out: &mut u32) -> Reply
-    ensures { (result, out.new) ≡ valueOr (λ m. m) out.old (maybeCountSays a) }
+    ensures { (result, out.new) ≡ value_or (λ m. m) out.old (maybe_count_says a) }
 {
     match a {
         MaybeCountAnswer::Refused(code) => Reply { code, found: 0 },

@@ -1,15 +1,15 @@
 // The calls on tags: read, exists, delete and replace. Each answers on every input: 20, then 1 for a name that is not of 1 to 32 bytes.
 ghost use Rattle.std.specs.Prelude.{◌≡◌, true};
-ghost use Rattle.std.specs.Answers.{refused, done, code};
-ghost use Rattle.pagecalls.specs.Says.{yesSays};
-ghost use Rattle.rules.specs.Forms.{nameLength};
-ghost use Rattle.rules.specs.Reads.{tagged, tagRead, tagExists, tagDelete, tagReplace};
-ghost use Rattle.layout.specs.Records.{tagBytes};
-ghost use Rattle.layout.specs.Tables.{tagsIn, tagsOk};
+ghost use Rattle.basics.specs.Answers.{refused, done, code};
+ghost use Rattle.pagecalls.specs.Says.{yes_says};
+ghost use Rattle.rules.specs.Forms.{name_length};
+ghost use Rattle.rules.specs.Reads.{tagged, tag_read, tag_exists, tag_delete, tag_replace};
+ghost use Rattle.layout.specs.Records.{tag_bytes};
+ghost use Rattle.layout.specs.Tables.{tags_in, tags_ok};
 ghost use Rattle.layout.specs.Lent.{lent, after};
-ghost use Rattle.tagcalls.specs.Says.{taggedAnswer, earlier};
+ghost use Rattle.tagcalls.specs.Says.{tagged_answer, earlier};
 
-use core::id::VolumeId;
+use basics::id::VolumeId;
 use pagecalls::YesAnswer;
 use table::Spot;
 use tags::{find_tag, put_tag, remove_tag, room_for_tag, tagged_at, tags_formed};
@@ -24,7 +24,7 @@ pub struct TaggedAnswer {
 
 // A refusal; under 0, nothing.
 fn no_volume(code: u32) -> TaggedAnswer
-    ensures { result ≡ taggedAnswer (refused code) }
+    ensures { result ≡ tagged_answer (refused code) }
 {
     TaggedAnswer {
         code,
@@ -35,7 +35,7 @@ fn no_volume(code: u32) -> TaggedAnswer
 
 // Whether a name has the length of a tag's name, 1 to 32 bytes.
 fn is_name(name: &[u8]) -> bool
-    ensures { result ≡ nameLength name.now }
+    ensures { result ≡ name_length name.now }
 {
     let n = name.len();
     if n == 0 {
@@ -49,8 +49,8 @@ fn is_name(name: &[u8]) -> bool
 
 // The volume that a name names in a table of tags, or nothing.
 fn named_volume(tags: &[u8], name: &[u8]) -> TaggedAnswer
-    requires { (tagsOk tags.now ≡ true) × (nameLength name.now ≡ true) }
-    ensures { result ≡ taggedAnswer (done (tagged (tagsIn tags.now) name.now)) }
+    requires { (tags_ok tags.now ≡ true) × (name_length name.now ≡ true) }
+    ensures { result ≡ tagged_answer (done (tagged (tags_in tags.now) name.now)) }
 {
     let Spot::At(i) = find_tag(tags, name) else {
         return no_volume(0);
@@ -65,7 +65,7 @@ fn named_volume(tags: &[u8], name: &[u8]) -> TaggedAnswer
 
 // The volume that a tag names, or nothing: 20, 1.
 pub fn tag_read(tags: &[u8], name: &[u8]) -> TaggedAnswer
-    ensures { result ≡ taggedAnswer (lent (tagsOk tags.now) (tagRead (tagsIn tags.now) name.now)) }
+    ensures { result ≡ tagged_answer (lent (tags_ok tags.now) (tag_read (tags_in tags.now) name.now)) }
 {
     if !tags_formed(tags) {
         return no_volume(20);
@@ -78,7 +78,7 @@ pub fn tag_read(tags: &[u8], name: &[u8]) -> TaggedAnswer
 
 // Whether a tag is stored: 20, 1.
 pub fn tag_exists(tags: &[u8], name: &[u8]) -> YesAnswer
-    ensures { yesSays result ≡ lent (tagsOk tags.now) (tagExists (tagsIn tags.now) name.now) }
+    ensures { yes_says result ≡ lent (tags_ok tags.now) (tag_exists (tags_in tags.now) name.now) }
 {
     if !tags_formed(tags) {
         return YesAnswer::Refused(20);
@@ -94,8 +94,8 @@ pub fn tag_exists(tags: &[u8], name: &[u8]) -> YesAnswer
 
 // A tag deleted; where there is none, nothing is: 20, 1.
 pub fn tag_delete(tags: &mut [u8], name: &[u8]) -> u32
-    ensures value { result ≡ code (lent (tagsOk tags.old) (tagDelete (tagsIn tags.old) name.now)) }
-    ensures tags_after { tags.new ≡ after tagBytes (λ t. t) tags.old (lent (tagsOk tags.old) (tagDelete (tagsIn tags.old) name.now)) }
+    ensures value { result ≡ code (lent (tags_ok tags.old) (tag_delete (tags_in tags.old) name.now)) }
+    ensures tags_after { tags.new ≡ after tag_bytes (λ t. t) tags.old (lent (tags_ok tags.old) (tag_delete (tags_in tags.old) name.now)) }
 {
     if !tags_formed(tags) {
         return 20;
@@ -109,8 +109,8 @@ pub fn tag_delete(tags: &mut [u8], name: &[u8]) -> u32
 
 // The name names that volume from now on; answers the volume that it named before, or nothing: 20, 1, 19.
 pub fn tag_replace(tags: &mut [u8], name: &[u8], vid: VolumeId) -> TaggedAnswer
-    ensures value { result ≡ taggedAnswer (earlier (lent (tagsOk tags.old) (tagReplace (tagsIn tags.old) name.now vid))) }
-    ensures tags_after { tags.new ≡ after tagBytes (λ p. p.1) tags.old (lent (tagsOk tags.old) (tagReplace (tagsIn tags.old) name.now vid)) }
+    ensures value { result ≡ tagged_answer (earlier (lent (tags_ok tags.old) (tag_replace (tags_in tags.old) name.now vid))) }
+    ensures tags_after { tags.new ≡ after tag_bytes (λ p. p.1) tags.old (lent (tags_ok tags.old) (tag_replace (tags_in tags.old) name.now vid)) }
 {
     if !tags_formed(tags) {
         return no_volume(20);

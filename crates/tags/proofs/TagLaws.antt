@@ -2,16 +2,16 @@
 -- the layout of tags.
 use Rattle.std.proofs.Common.{◌≡◌, ℕ, true, List}
 use mathlib.Core.Option.{some}
-use Rattle.std.specs.Orders.{bytes}
-use Rattle.rules.specs.Records.{Name, Tag, tagKey}
-use Rattle.rules.specs.Forms.{tagForm}
-use Rattle.rules.specs.Tables.{fits, store, remove, sameId, getTag}
-use Rattle.layout.specs.Records.{tagBytes}
-use Rattle.layout.specs.Tables.{tagsIn, tagsOk, laidOver}
-use Rattle.rows.proofs.Spots.{freed-room}
-use Rattle.rows.proofs.Tables.{OkName, tags, tag-key}
-use Rattle.tags.specs.Lookups.{keyBytes}
+use Rattle.basics.specs.Orders.{bytes}
+use Rattle.rules.specs.Records.{Name, Tag, tag_key}
+use Rattle.rules.specs.Forms.{tag_form}
+use Rattle.rules.specs.Tables.{fits, store, remove, same_id, get_tag}
+use Rattle.layout.specs.Records.{tag_bytes}
+use Rattle.layout.specs.Tables.{tags_in, tags_ok, laid_over}
+use Rattle.rows.proofs.Spots.{freed_room}
+use Rattle.rows.proofs.Tables.{OkName, tags, tag_key_lem}
+use Rattle.tags.specs.Lookups.{key_bytes}
 
-pub room-used-again : (t : List ℕ) → tagsOk t ≡ true → (name : Name) → OkName name → (g : Tag) → getTag (tagsIn t) name ≡ some g → (w : Tag) → tagForm w ≡ true
-    → let u = laidOver tagBytes (remove (λ r. sameId name r.name) (tagsIn t)) t in (tagsOk u ≡ true) × (fits (store tagKey bytes w (tagsIn u)) ≡ true)
-room-used-again t ok name l g e w f = freed-room tags t ok (keyBytes.spell name) name (tag-key name l) g e w f
+pub room_used_again : (t : List ℕ) → tags_ok t ≡ true → (name : Name) → OkName name → (g : Tag) → get_tag (tags_in t) name ≡ some g → (w : Tag) → tag_form w ≡ true
+    → let u = laid_over tag_bytes (remove (λ r. same_id name r.name) (tags_in t)) t in (tags_ok u ≡ true) × (fits (store tag_key bytes w (tags_in u)) ≡ true)
+room_used_again t ok name l g e w f = freed_room tags t ok (key_bytes.spell name) name (tag_key_lem name l) g e w f

@@ -2,18 +2,18 @@
 ghost use Rattle.std.specs.Prelude.{◌≡◌, ◌+◌, ◌<◌, ◌≤◌, true, length};
 ghost use Rattle.std.proofs.Math.Option.{some, map};
 ghost use Rattle.octets.specs.Bytes.{be, part};
-ghost use Rattle.std.specs.Orders.{bytes};
-ghost use Rattle.rules.specs.Records.{Id, Tag, tagKey};
-ghost use Rattle.rules.specs.Forms.{idForm, nameLength, tagForm};
-ghost use Rattle.rules.specs.Tables.{store, remove, fits, sameId};
+ghost use Rattle.basics.specs.Orders.{bytes};
+ghost use Rattle.rules.specs.Records.{Id, Tag, tag_key};
+ghost use Rattle.rules.specs.Forms.{id_form, name_length, tag_form};
+ghost use Rattle.rules.specs.Tables.{store, remove, fits, same_id};
 ghost use Rattle.table.specs.Table.{count_of};
-ghost use Rattle.layout.specs.Codecs.{inForm};
-ghost use Rattle.layout.specs.Records.{tag_of, tagBytes};
-ghost use Rattle.layout.specs.Tables.{tagsIn, tagsOk, laidOver};
+ghost use Rattle.layout.specs.Codecs.{in_form};
+ghost use Rattle.layout.specs.Records.{tag_of, tag_bytes};
+ghost use Rattle.layout.specs.Tables.{tags_in, tags_ok, laid_over};
 ghost use Rattle.rows.specs.Lookups.{nth};
-ghost use Rattle.tags.specs.Lookups.{keyBytes, Found};
+ghost use Rattle.tags.specs.Lookups.{key_bytes, Found};
 
-use core::id::VolumeId;
+use basics::id::VolumeId;
 use layout::{TAG, TAG_KEY};
 use octets::{all_zero, load_id, load8, store_all, store_id, store8};
 use table::Spot;
@@ -29,7 +29,7 @@ fn length_at(s: &[u8], at: usize) -> usize
 // Whether the 50 bytes at a place are a tag: a name of 1 to 32 bytes, zero past its length.
 pub fn tag_form(s: &[u8], at: usize) -> bool
     requires { at + 50 ≤ length s.now }
-    ensures { result ≡ inForm tagBytes tagForm (part at 50 s.now) }
+    ensures { result ≡ in_form tag_bytes tag_form (part at 50 s.now) }
 {
     if load8(s, at) != 0 {
         return false;
@@ -46,8 +46,8 @@ pub fn tag_form(s: &[u8], at: usize) -> bool
 
 // The key of a name.
 fn tag_key(name: &[u8]) -> [u8; 34]
-    requires { nameLength name.now ≡ true }
-    ensures { result ≡ keyBytes.spell name.now }
+    requires { name_length name.now ≡ true }
+    ensures { result ≡ key_bytes.spell name.now }
 {
     let mut key = [0u8; 34];
     store_all(&mut key, 1, name);
@@ -57,8 +57,8 @@ fn tag_key(name: &[u8]) -> [u8; 34]
 
 // The bytes of a tag.
 fn tag_row(name: &[u8], vid: VolumeId) -> [u8; 50]
-    requires { nameLength name.now ≡ true }
-    ensures { result ≡ tagBytes.spell (tag_of (name.now, vid)) }
+    requires { name_length name.now ≡ true }
+    ensures { result ≡ tag_bytes.spell (tag_of (name.now, vid)) }
 {
     let key = tag_key(name);
     let mut row = [0u8; 50];
@@ -69,7 +69,7 @@ fn tag_row(name: &[u8], vid: VolumeId) -> [u8; 50]
 
 // Whether bytes are a table of tags: their count, the order of their keys and the form of each (20).
 pub fn tags_formed(t: &[u8]) -> bool
-    ensures { result ≡ tagsOk t.now }
+    ensures { result ≡ tags_ok t.now }
 {
     if !table::well_ordered(t, TAG, TAG_KEY) {
         return false;
@@ -87,7 +87,7 @@ pub fn tags_formed(t: &[u8]) -> bool
 
 // Where the tag of a name stands.
 pub fn find_tag(t: &[u8], name: &[u8]) -> Spot
-    requires { (tagsOk t.now ≡ true) × (nameLength name.now ≡ true) }
+    requires { (tags_ok t.now ≡ true) × (name_length name.now ≡ true) }
     ensures { Found t.now name.now result }
 {
     let key = tag_key(name);
@@ -96,16 +96,16 @@ pub fn find_tag(t: &[u8], name: &[u8]) -> Spot
 
 // The volume that the tag at a place names.
 pub fn tagged_at(t: &[u8], i: usize) -> VolumeId
-    requires { (tagsOk t.now ≡ true) × (i < count_of t.now) }
-    ensures { map (λ (g : Tag). g.vid) (nth i (tagsIn t.now).rows) ≡ some result }
+    requires { (tags_ok t.now ≡ true) × (i < count_of t.now) }
+    ensures { map (λ (g : Tag). g.vid) (nth i (tags_in t.now).rows) ≡ some result }
 {
     load_id(t, 2 + i * TAG + 34)
 }
 
 // Whether there is room for a tag of that name, whatever volume it names: the name is stored, or one record more fits.
 pub fn room_for_tag(t: &[u8], name: &[u8]) -> bool
-    requires { (tagsOk t.now ≡ true) × (nameLength name.now ≡ true) }
-    ensures { (vid : Id) → idForm vid ≡ true → result ≡ fits (store tagKey bytes (tag_of (name.now, vid)) (tagsIn t.now)) }
+    requires { (tags_ok t.now ≡ true) × (name_length name.now ≡ true) }
+    ensures { (vid : Id) → id_form vid ≡ true → result ≡ fits (store tag_key bytes (tag_of (name.now, vid)) (tags_in t.now)) }
 {
     match find_tag(t, name) {
         Spot::At(_) => true,
@@ -115,9 +115,9 @@ pub fn room_for_tag(t: &[u8], name: &[u8]) -> bool
 
 // The name names that volume from now on; there is room for the tag.
 pub fn put_tag(t: &mut [u8], name: &[u8], vid: VolumeId)
-    requires t_value { (tagsOk t.old ≡ true) × (nameLength name.now ≡ true) }
-    requires t_value_2 { fits (store tagKey bytes (tag_of (name.now, vid)) (tagsIn t.old)) ≡ true }
-    ensures { t.new ≡ laidOver tagBytes (store tagKey bytes (tag_of (name.now, vid)) (tagsIn t.old)) t.old }
+    requires t_value { (tags_ok t.old ≡ true) × (name_length name.now ≡ true) }
+    requires t_value_2 { fits (store tag_key bytes (tag_of (name.now, vid)) (tags_in t.old)) ≡ true }
+    ensures { t.new ≡ laid_over tag_bytes (store tag_key bytes (tag_of (name.now, vid)) (tags_in t.old)) t.old }
 {
     let row = tag_row(name, vid);
     table::put(t, TAG, TAG_KEY, &row);
@@ -125,8 +125,8 @@ pub fn put_tag(t: &mut [u8], name: &[u8], vid: VolumeId)
 
 // The tag of a name goes; where there is none, nothing does.
 pub fn remove_tag(t: &mut [u8], name: &[u8])
-    requires { (tagsOk t.old ≡ true) × (nameLength name.now ≡ true) }
-    ensures { t.new ≡ laidOver tagBytes (remove (λ g. sameId name.now g.name) (tagsIn t.old)) t.old }
+    requires { (tags_ok t.old ≡ true) × (name_length name.now ≡ true) }
+    ensures { t.new ≡ laid_over tag_bytes (remove (λ g. same_id name.now g.name) (tags_in t.old)) t.old }
 {
     let Spot::At(i) = find_tag(t, name) else {
         return;

@@ -1,22 +1,22 @@
 // What a reader sees of a volume, with snapshots in bytes: the call by value is made once, and the numbers of the bytes take their turn in its answer.
 ghost use Rattle.std.specs.Prelude.{◌≡◌, ◌&&◌};
-ghost use Rattle.pagecalls.specs.Says.{yesSays};
+ghost use Rattle.pagecalls.specs.Says.{yes_says};
 ghost use Rattle.rules.specs.Snapshots.{snapshot as snapshotRule};
-ghost use Rattle.layout.specs.Tables.{volumesIn, volumesOk, commitsIn, commitsOk};
-ghost use Rattle.layout.specs.Values.{snapshotBytes};
+ghost use Rattle.layout.specs.Tables.{volumes_in, volumes_ok, commits_in, commits_ok};
+ghost use Rattle.layout.specs.Values.{snapshot_bytes};
 ghost use Rattle.layout.specs.Lent.{lent};
 ghost use Rattle.arguments.specs.Replies.{value, placed};
-ghost use Rattle.viewargs.specs.Views.{latestIn, unformed as unformedAnswer};
+ghost use Rattle.viewargs.specs.Views.{latest_in, unformed as unformedAnswer};
 
 use arguments::Reply;
 use arguments::snapshots::{put_snapshot, snapshot_arg, snapshot_ok};
-use core::id::VolumeId;
+use basics::id::VolumeId;
 use layout::SNAPSHOT;
 use pagecalls::YesAnswer;
 
 // The snapshot of the volume of an identifier, to `out`: 20, 3 for a place of another length, 4.
 pub fn snapshot(volumes: &[u8], commits: &[u8], vid: VolumeId, out: &mut [u8]) -> Reply
-    ensures { (result, out.new) ≡ value snapshotBytes.spell out.old (lent (volumesOk volumes.now && commitsOk commits.now) (placed snapshotBytes.size out.old (snapshotRule (volumesIn volumes.now) (commitsIn commits.now) vid))) }
+    ensures { (result, out.new) ≡ value snapshot_bytes.spell out.old (lent (volumes_ok volumes.now && commits_ok commits.now) (placed snapshot_bytes.size out.old (snapshotRule (volumes_in volumes.now) (commits_in commits.now) vid))) }
 {
     let a = viewcalls::snapshot(volumes, commits, vid);
     if a.code == 20 {
@@ -30,7 +30,7 @@ pub fn snapshot(volumes: &[u8], commits: &[u8], vid: VolumeId, out: &mut [u8]) -
 
 // The answer of the latest check where the bytes of the snapshot are not in form: 20, 1 and 2 stay, all else is 3.
 fn unformed(a: YesAnswer) -> YesAnswer
-    ensures { yesSays result ≡ unformedAnswer (yesSays a) }
+    ensures { yes_says result ≡ unformedAnswer (yes_says a) }
 {
     match a {
         YesAnswer::Refused(n) => YesAnswer::Refused(if n == 4 { 3 } else { n }),
@@ -41,7 +41,7 @@ fn unformed(a: YesAnswer) -> YesAnswer
 
 // Whether a snapshot is the latest of the volume of an identifier: 20, 1, 2, 3, 4.
 pub fn latest_check(volumes: &[u8], commits: &[u8], vid: VolumeId, snapshot: &[u8]) -> YesAnswer
-    ensures { yesSays result ≡ lent (volumesOk volumes.now && commitsOk commits.now) (latestIn (volumesIn volumes.now) (commitsIn commits.now) vid snapshot.now) }
+    ensures { yes_says result ≡ lent (volumes_ok volumes.now && commits_ok commits.now) (latest_in (volumes_in volumes.now) (commits_in commits.now) vid snapshot.now) }
 {
     let a = viewcalls::latest_check(volumes, commits, vid, snapshot_arg(snapshot));
     if !snapshot_ok(snapshot) {

@@ -4,68 +4,68 @@ use Rattle.std.proofs.Common.{◌≡◌, ℕ, ◌+◌, ◌<◌, ◌≤◌, Bool,
 use mathlib.Core.Option
 use mathlib.Core.Option.{Option, none, some}
 use lib.ListN.{length-map}
-use Rattle.std.specs.Answers.{Answer, refused, done, ask, need, ◌>>◌, ◌>>=◌}
+use Rattle.basics.specs.Answers.{Answer, refused, done, ask, need, ◌>>◌, ◌>>=◌}
 use Rattle.rules.specs.Lists.{all, any, is_some, is_none}
 use Rattle.rules.specs.Records.{Id, Commit, Volume, Range}
-use Rattle.rules.specs.Tables.{Table, sameId, getVolume, latest, latestLsn, volumesFormed, commitsFormed}
-use Rattle.rules.specs.Arguments.{snapshotLsns, snapshotOrder, snapshotForm}
-use Rattle.rules.specs.Snapshots.{remoteOf, isAt, rangeLatest, isRemote, sameAnswer, pathLatest, isLatest, latestCheck}
-use Rattle.rules.proofs.TableLaws.{and-fst, all_map, any-map, and_both}
+use Rattle.rules.specs.Tables.{Table, same_id, get_volume, latest, latest_lsn, volumes_formed, commits_formed}
+use Rattle.rules.specs.Arguments.{snapshot_lsns, snapshot_order, snapshot_form}
+use Rattle.rules.specs.Snapshots.{remote_of, is_at, range_latest, is_remote, same_answer, path_latest, is_latest, latest_check}
+use Rattle.rules.proofs.TableLaws.{and_fst, all_map, any_map, and_both}
 use Rattle.rules.proofs.Loops.{any_step}
 use Rattle.layout.specs.Lent.{lent}
-use Rattle.layout.specs.Tables.{volumesIn, volumesOk, commitsIn, commitsOk}
-use Rattle.layout.proofs.LentLaws.{lent-yes}
+use Rattle.layout.specs.Tables.{volumes_in, volumes_ok, commits_in, commits_ok}
+use Rattle.layout.proofs.LentLaws.{lent_yes}
 use Rattle.rows.specs.Lookups.{nth}
-use Rattle.volume.specs.Volumes.{syncSays, volumeSays}
-use Rattle.volume.specs.Snapshots.{rangeSays, snapshotSays, isZeroRange, inForm}
+use Rattle.volume.specs.Volumes.{sync_says, volume_says}
+use Rattle.volume.specs.Snapshots.{range_says, snapshot_says, is_zero_range, in_form}
 use Rattle.volume.specs.declared.volume.Sync.{Sync}
 use Rattle.volume.specs.declared.volume.SyncPoint.{SyncPoint}
 use Rattle.volume.specs.declared.volume.Sync.TheVariants as Sync
 use Rattle.volume.specs.declared.volume.Volume.{Volume as CodeVolume}
 use Rattle.volume.specs.declared.snapshot.LogRange.{LogRange}
 use Rattle.volume.specs.declared.snapshot.Snapshot.{Snapshot as CodeSnapshot}
-use Rattle.volumebytes.specs.Laid.{volumeLaid}
-use Rattle.volumebytes.proofs.RoundLaws.{says-laid}
+use Rattle.volumebytes.specs.Laid.{volume_laid}
+use Rattle.volumebytes.proofs.RoundLaws.{says_laid}
 use Rattle.volumecalls.proofs.Ends.{made_of}
-use Rattle.viewcalls.specs.Checks.{latestBy, checked}
+use Rattle.viewcalls.specs.Checks.{latest_by, checked}
 use Rattle.viewcalls.proofs.Ends.{formed}
 
 -- ---- one range
 
 module _ (v : Volume) (o : Option ℕ) (r : Range) where
   -- it names the local log
-  pub local-end : sameId v.local r.log ≡ true → isAt o r.end ≡ latestBy v o r
-  local-end e = rw e
+  pub local_end : same_id v.local r.log ≡ true → is_at o r.end ≡ latest_by v o r
+  local_end e = rw e
 
-  pub local-not-remote : sameId v.local r.log ≡ true → false ≡ isRemote v r
-  local-not-remote e = rw e
+  pub local_not_remote : same_id v.local r.log ≡ true → false ≡ is_remote v r
+  local_not_remote e = rw e
 
-  module _ (e : sameId v.local r.log ≡ false) where
+  module _ (e : same_id v.local r.log ≡ false) where
     -- it names neither log
-    pub no_end : sameId v.remote r.log ≡ false → false ≡ latestBy v o r
+    pub no_end : same_id v.remote r.log ≡ false → false ≡ latest_by v o r
     no_end f = rw (e, f)
 
     -- it names the remote
-    pub remote-end : sameId v.remote r.log ≡ true → isAt (remoteOf v.sync) r.end ≡ latestBy v o r
-    remote-end f = rw (e, f)
+    pub remote_end : same_id v.remote r.log ≡ true → is_at (remote_of v.sync) r.end ≡ latest_by v o r
+    remote_end f = rw (e, f)
 
-    pub by-remote : sameId v.remote r.log ≡ isRemote v r
-    by-remote = rw e
+    pub by_remote : same_id v.remote r.log ≡ is_remote v r
+    by_remote = rw e
 
 -- ---- whether a remote range is there exactly if there is a sync
 
 module _ (b : Bool) (y : Sync) where
-  pub without-sync : y ≡ Sync.Missing → not b ≡ sameAnswer b (is_some (syncSays y))
-  without-sync e = go b ∙ ap (λ (x : Sync). sameAnswer b (is_some (syncSays x))) (sym e)
+  pub without_sync : y ≡ Sync.Missing → not b ≡ same_answer b (is_some (sync_says y))
+  without_sync e = go b ∙ ap (λ (x : Sync). same_answer b (is_some (sync_says x))) (sym e)
     where
-      go : (a : Bool) → not a ≡ sameAnswer a false
+      go : (a : Bool) → not a ≡ same_answer a false
       go true = refl
       go false = refl
 
-  pub with-sync : (p : SyncPoint) → y ≡ Sync.At p → b ≡ sameAnswer b (is_some (syncSays y))
-  with-sync p e = go b ∙ ap (λ (x : Sync). sameAnswer b (is_some (syncSays x))) (sym e)
+  pub with_sync : (p : SyncPoint) → y ≡ Sync.At p → b ≡ same_answer b (is_some (sync_says y))
+  with_sync p e = go b ∙ ap (λ (x : Sync). same_answer b (is_some (sync_says x))) (sym e)
     where
-      go : (a : Bool) → a ≡ sameAnswer a true
+      go : (a : Bool) → a ≡ same_answer a true
       go true = refl
       go false = refl
 
@@ -82,8 +82,8 @@ module _ {A : Type 0} (f : A → Bool) (d : A) (xs : List A) (n i : ℕ) (h : i 
   passes e = rw (turn, e)
 
   -- it does not, and the rest decides
-  pub passes-not : f (get_or xs i d) ≡ false → any f (drop i (take n xs)) ≡ any f (drop (i + 1) (take n xs))
-  passes-not e = turn ∙ rw e
+  pub passes_not : f (get_or xs i d) ≡ false → any f (drop i (take n xs)) ≡ any f (drop (i + 1) (take n xs))
+  passes_not e = turn ∙ rw e
 
 -- nothing is left
 pub no_more : {A : Type 0} (f : A → Bool) (xs : List A) (n i : ℕ) → n ≤ i → false ≡ any f (drop i (take n xs))
@@ -95,112 +95,112 @@ no_more f xs n i h =
 -- ---- a path
 
 module _ (cs : Table Commit) (v : Volume) where
-  no-lsn : (c : Option Commit) → is_none (Option.map (λ (x : Commit). x.lsn) c) ≡ is_none c
-  no-lsn none = refl
-  no-lsn (some c) = refl
+  no_lsn : (c : Option Commit) → is_none (Option.map (λ (x : Commit). x.lsn) c) ≡ is_none c
+  no_lsn none = refl
+  no_lsn (some c) = refl
 
-  no-ranges : (xs : List LogRange) → (is_none (latest cs v.local) && is_none v.sync) ≡ pathLatest cs v (map rangeSays (take 0 xs))
-  no-ranges [] = refl
-  no-ranges (x ∷ xs) = refl
+  no_ranges : (xs : List LogRange) → (is_none (latest cs v.local) && is_none v.sync) ≡ path_latest cs v (map range_says (take 0 xs))
+  no_ranges [] = refl
+  no_ranges (x ∷ xs) = refl
 
-  ranges : (l : List Range) → 0 < length l → (all (rangeLatest cs v) l && sameAnswer (any (isRemote v) l) (is_some v.sync)) ≡ pathLatest cs v l
+  ranges : (l : List Range) → 0 < length l → (all (range_latest cs v) l && same_answer (any (is_remote v) l) (is_some v.sync)) ≡ path_latest cs v l
   ranges [] h = absurd (omega arith)
   ranges (r ∷ l) h = refl
 
   -- o is the local log's latest LSN
-  module _ (s : CodeSnapshot) (eight : length s.path ≡ 8) (o : Option ℕ) (e : o ≡ latestLsn cs v.local) where
-    pub empty-latest : s.len ≡ 0 → (is_none o && is_none v.sync) ≡ isLatest cs v (snapshotSays s)
-    unfolding isLatest
-    empty-latest z =
-        ap (λ (b : Bool). b && is_none v.sync) (ap is_none e ∙ no-lsn (latest cs v.local))
-        ∙ no-ranges s.path ∙ ap (λ (n : ℕ). pathLatest cs v (map rangeSays (take n s.path))) (sym z)
+  module _ (s : CodeSnapshot) (eight : length s.path ≡ 8) (o : Option ℕ) (e : o ≡ latest_lsn cs v.local) where
+    pub empty_latest : s.len ≡ 0 → (is_none o && is_none v.sync) ≡ is_latest cs v (snapshot_says s)
+    unfolding is_latest
+    empty_latest z =
+        ap (λ (b : Bool). b && is_none v.sync) (ap is_none e ∙ no_lsn (latest cs v.local))
+        ∙ no_ranges s.path ∙ ap (λ (n : ℕ). path_latest cs v (map range_says (take n s.path))) (sym z)
 
     module _ (z : s.len ≡ 0 → ⊥) where
-      path-is : (all (λ x. latestBy v o (rangeSays x)) (take s.len s.path) && sameAnswer (any (λ x. isRemote v (rangeSays x)) (take s.len s.path)) (is_some v.sync))
-          ≡ isLatest cs v (snapshotSays s)
-      unfolding isLatest
-      path-is =
-          let l : 0 < length (map rangeSays (take s.len s.path)) = simp (length-map, length-take) (omega arith) in
-          ap₂ (λ (a b : Bool). a && sameAnswer b (is_some v.sync))
-          (ap (λ (w : Option ℕ). all (λ x. latestBy v w (rangeSays x)) (take s.len s.path)) e ∙ sym (all_map (rangeLatest cs v) rangeSays (take s.len s.path)))
-          (sym (any-map (isRemote v) rangeSays (take s.len s.path)))
-          ∙ ranges (map rangeSays (take s.len s.path)) l
+      path_is : (all (λ x. latest_by v o (range_says x)) (take s.len s.path) && same_answer (any (λ x. is_remote v (range_says x)) (take s.len s.path)) (is_some v.sync))
+          ≡ is_latest cs v (snapshot_says s)
+      unfolding is_latest
+      path_is =
+          let l : 0 < length (map range_says (take s.len s.path)) = simp (length-map, length-take) (omega arith) in
+          ap₂ (λ (a b : Bool). a && same_answer b (is_some v.sync))
+          (ap (λ (w : Option ℕ). all (λ x. latest_by v w (range_says x)) (take s.len s.path)) e ∙ sym (all_map (range_latest cs v) range_says (take s.len s.path)))
+          (sym (any_map (is_remote v) range_says (take s.len s.path)))
+          ∙ ranges (map range_says (take s.len s.path)) l
 
       -- one range is not latest
-      pub path-old : all (λ x. latestBy v o (rangeSays x)) (take s.len s.path) ≡ false → false ≡ isLatest cs v (snapshotSays s)
-      path-old f =
-          ap (λ (b : Bool). b && sameAnswer (any (λ x. isRemote v (rangeSays x)) (take s.len s.path)) (is_some v.sync)) (sym f) ∙ path-is
+      pub path_old : all (λ x. latest_by v o (range_says x)) (take s.len s.path) ≡ false → false ≡ is_latest cs v (snapshot_says s)
+      path_old f =
+          ap (λ (b : Bool). b && same_answer (any (λ x. is_remote v (range_says x)) (take s.len s.path)) (is_some v.sync)) (sym f) ∙ path_is
 
       -- all are
-      pub path-latest : all (λ x. latestBy v o (rangeSays x)) (take s.len s.path) ≡ true → (found : Bool) → found ≡ any (λ x. isRemote v (rangeSays x)) (take s.len s.path)
-          → sameAnswer found (is_some v.sync) ≡ isLatest cs v (snapshotSays s)
-      path-latest f found g =
-          ap₂ (λ (a b : Bool). a && sameAnswer b (is_some v.sync)) (sym f) g ∙ path-is
+      pub path_latest_lem : all (λ x. latest_by v o (range_says x)) (take s.len s.path) ≡ true → (found : Bool) → found ≡ any (λ x. is_remote v (range_says x)) (take s.len s.path)
+          → same_answer found (is_some v.sync) ≡ is_latest cs v (snapshot_says s)
+      path_latest_lem f found g =
+          ap₂ (λ (a b : Bool). a && same_answer b (is_some v.sync)) (sym f) g ∙ path_is
 
 -- ---- the call
 
 -- a snapshot in form has at most 8 ranges
-pub form-len : (s : CodeSnapshot) → inForm s ≡ true → s.len ≤ 8
-unfolding inForm
-form-len s e = leb-true s.len 8 (and-fst (leb s.len 8) (all isZeroRange (drop s.len s.path)) e)
+pub form_len : (s : CodeSnapshot) → in_form s ≡ true → s.len ≤ 8
+unfolding in_form
+form_len s e = leb-true s.len 8 (and_fst (leb s.len 8) (all is_zero_range (drop s.len s.path)) e)
 
 -- where the tables are formed and the snapshot is in form, the call is the rule on what the snapshot says
-pub checked-rule : (vs : Table Volume) (cs : Table Commit) (vid : Id) (s : CodeSnapshot) → (volumesFormed vs && commitsFormed cs) ≡ true → inForm s ≡ true
-    → checked vs cs vid s ≡ latestCheck vs cs vid (snapshotSays s)
-unfolding checked latestCheck
-checked-rule vs cs vid s f d = rw (f, d) (twice (snapshotLsns (snapshotSays s)) (snapshotOrder (snapshotSays s)) _)
+pub checked_rule : (vs : Table Volume) (cs : Table Commit) (vid : Id) (s : CodeSnapshot) → (volumes_formed vs && commits_formed cs) ≡ true → in_form s ≡ true
+    → checked vs cs vid s ≡ latest_check vs cs vid (snapshot_says s)
+unfolding checked latest_check
+checked_rule vs cs vid s f d = rw (f, d) (twice (snapshot_lsns (snapshot_says s)) (snapshot_order (snapshot_says s)) _)
   where
     twice : {A : Type 0} (a b : Bool) (k : Answer A) → ask a 1 >> (ask b 2 >> (ask a 1 >> (ask b 2 >> k))) ≡ ask a 1 >> (ask b 2 >> k)
     twice false b k = refl
     twice true false k = refl
     twice true true k = refl
 
-module _ (t u : List ℕ) (vid : Id) (s : CodeSnapshot) (ok : volumesOk t ≡ true) (oku : commitsOk u ≡ true) where
-  past-20 : lent (volumesOk t && commitsOk u) (checked (volumesIn t) (commitsIn u) vid s) ≡ checked (volumesIn t) (commitsIn u) vid s
-  past-20 = lent-yes (volumesOk t && commitsOk u) (checked (volumesIn t) (commitsIn u) vid s) (and_both ok oku)
+module _ (t u : List ℕ) (vid : Id) (s : CodeSnapshot) (ok : volumes_ok t ≡ true) (oku : commits_ok u ≡ true) where
+  past_20 : lent (volumes_ok t && commits_ok u) (checked (volumes_in t) (commits_in u) vid s) ≡ checked (volumes_in t) (commits_in u) vid s
+  past_20 = lent_yes (volumes_ok t && commits_ok u) (checked (volumes_in t) (commits_in u) vid s) (and_both ok oku)
 
   -- 1
-  pub zero-lsn : snapshotLsns (snapshotSays s) ≡ false → refused 1 ≡ lent (volumesOk t && commitsOk u) (checked (volumesIn t) (commitsIn u) vid s)
+  pub zero_lsn : snapshot_lsns (snapshot_says s) ≡ false → refused 1 ≡ lent (volumes_ok t && commits_ok u) (checked (volumes_in t) (commits_in u) vid s)
   unfolding checked
-  zero-lsn a = rw (past-20, a)
+  zero_lsn a = rw (past_20, a)
 
-  module _ (a : snapshotLsns (snapshotSays s) ≡ true) where
+  module _ (a : snapshot_lsns (snapshot_says s) ≡ true) where
     -- 2
-    pub start-above : snapshotOrder (snapshotSays s) ≡ false → refused 2 ≡ lent (volumesOk t && commitsOk u) (checked (volumesIn t) (commitsIn u) vid s)
+    pub start_above : snapshot_order (snapshot_says s) ≡ false → refused 2 ≡ lent (volumes_ok t && commits_ok u) (checked (volumes_in t) (commits_in u) vid s)
     unfolding checked
-    start-above b = rw (past-20, a, b)
+    start_above b = rw (past_20, a, b)
 
-    module _ (b : snapshotOrder (snapshotSays s) ≡ true) where
+    module _ (b : snapshot_order (snapshot_says s) ≡ true) where
       -- 3
-      pub no-form : inForm s ≡ false → refused 3 ≡ lent (volumesOk t && commitsOk u) (checked (volumesIn t) (commitsIn u) vid s)
+      pub no_form : in_form s ≡ false → refused 3 ≡ lent (volumes_ok t && commits_ok u) (checked (volumes_in t) (commits_in u) vid s)
       unfolding checked
-      no-form d = rw (past-20, a, b, d)
+      no_form d = rw (past_20, a, b, d)
 
-      module _ (d : inForm s ≡ true) where
-        within : snapshotForm (snapshotSays s) ≡ true
-        unfolding snapshotForm
+      module _ (d : in_form s ≡ true) where
+        within : snapshot_form (snapshot_says s) ≡ true
+        unfolding snapshot_form
         within =
-            let h = form-len s d in
-            let l : length (map rangeSays (take s.len s.path)) ≤ 8 = simp (length-map, length-take) (omega arith) in
-            le-leb (length (map rangeSays (take s.len s.path))) 8 l
+            let h = form_len s d in
+            let l : length (map range_says (take s.len s.path)) ≤ 8 = simp (length-map, length-take) (omega arith) in
+            le-leb (length (map range_says (take s.len s.path))) 8 l
 
         verdict : Option Volume → Answer Bool
-        verdict w = need w 4 >>= (λ v. done (isLatest (commitsIn u) v (snapshotSays s)))
+        verdict w = need w 4 >>= (λ v. done (is_latest (commits_in u) v (snapshot_says s)))
 
-        check-is : lent (volumesOk t && commitsOk u) (checked (volumesIn t) (commitsIn u) vid s) ≡ verdict (getVolume (volumesIn t) vid)
-        unfolding checked latestCheck verdict
-        check-is = rw (past-20, a, b, d, formed t u vid ok oku, within)
+        check_is : lent (volumes_ok t && commits_ok u) (checked (volumes_in t) (commits_in u) vid s) ≡ verdict (get_volume (volumes_in t) vid)
+        unfolding checked latest_check verdict
+        check_is = rw (past_20, a, b, d, formed t u vid ok oku, within)
 
         -- 4
-        pub no-verdict : getVolume (volumesIn t) vid ≡ none → refused 4 ≡ lent (volumesOk t && commitsOk u) (checked (volumesIn t) (commitsIn u) vid s)
+        pub no_verdict : get_volume (volumes_in t) vid ≡ none → refused 4 ≡ lent (volumes_ok t && commits_ok u) (checked (volumes_in t) (commits_in u) vid s)
         unfolding verdict
-        no-verdict e = sym (check-is ∙ ap verdict e)
+        no_verdict e = sym (check_is ∙ ap verdict e)
 
         -- the volume x stands at place i
-        pub verdict-found : (i : ℕ) (x : CodeVolume) (r : Bool) → nth i (volumesIn t).rows ≡ getVolume (volumesIn t) vid → Option.map volumeLaid (nth i (volumesIn t).rows) ≡ some x
-            → r ≡ isLatest (commitsIn u) (volumeSays x) (snapshotSays s) → done r ≡ lent (volumesOk t && commitsOk u) (checked (volumesIn t) (commitsIn u) vid s)
+        pub verdict_found : (i : ℕ) (x : CodeVolume) (r : Bool) → nth i (volumes_in t).rows ≡ get_volume (volumes_in t) vid → Option.map volume_laid (nth i (volumes_in t).rows) ≡ some x
+            → r ≡ is_latest (commits_in u) (volume_says x) (snapshot_says s) → done r ≡ lent (volumes_ok t && commits_ok u) (checked (volumes_in t) (commits_in u) vid s)
         unfolding verdict
-        verdict-found i x r here read h =
-            made_of volumeLaid (nth i (volumesIn t).rows) x read (λ v e q.
-            ap done (h ∙ ap (λ (z : CodeVolume). isLatest (commitsIn u) (volumeSays z) (snapshotSays s)) (sym q) ∙ ap (λ (w : Volume). isLatest (commitsIn u) w (snapshotSays s)) (says-laid v))
-            ∙ sym (check-is ∙ ap verdict (sym here ∙ e)))
+        verdict_found i x r here read h =
+            made_of volume_laid (nth i (volumes_in t).rows) x read (λ v e q.
+            ap done (h ∙ ap (λ (z : CodeVolume). is_latest (commits_in u) (volume_says z) (snapshot_says s)) (sym q) ∙ ap (λ (w : Volume). is_latest (commits_in u) w (snapshot_says s)) (says_laid v))
+            ∙ sym (check_is ∙ ap verdict (sym here ∙ e)))

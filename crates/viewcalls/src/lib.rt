@@ -1,21 +1,21 @@
 // The calls on what a reader sees of a volume: its snapshot, and whether a snapshot is the latest. Each answers on every input, 20 first.
 ghost use Rattle.std.specs.Prelude.{◌≡◌, ◌≤◌, true, ◌&&◌, [], ◌∷◌, take};
-ghost use Rattle.std.specs.Answers.{refused};
-ghost use Rattle.pagecalls.specs.Says.{yesSays};
+ghost use Rattle.basics.specs.Answers.{refused};
+ghost use Rattle.pagecalls.specs.Says.{yes_says};
 ghost use Rattle.rules.specs.Lists.{all, any, is_some, is_none};
-ghost use Rattle.rules.specs.Tables.{latestLsn};
-ghost use Rattle.rules.specs.Snapshots.{watermarkOf, remoteOf, below, after, remoteSnapshot, snapshotOf, snapshot as snapshotRule, isAt, isRemote, sameAnswer, isLatest};
-ghost use Rattle.volume.specs.Volumes.{maybeLsnSays, syncSays, volumeSays};
-ghost use Rattle.volume.specs.Snapshots.{rangeSays, snapshotSays, laid, laidAnswer};
-ghost use Rattle.layout.specs.Tables.{volumesIn, volumesOk, commitsIn, commitsOk};
+ghost use Rattle.rules.specs.Tables.{latest_lsn};
+ghost use Rattle.rules.specs.Snapshots.{watermark_of, remote_of, below, after, remote_snapshot, snapshot_of, snapshot as snapshotRule, is_at, is_remote, same_answer, is_latest};
+ghost use Rattle.volume.specs.Volumes.{maybe_lsn_says, sync_says, volume_says};
+ghost use Rattle.volume.specs.Snapshots.{range_says, snapshot_says, laid, laid_answer};
+ghost use Rattle.layout.specs.Tables.{volumes_in, volumes_ok, commits_in, commits_ok};
 ghost use Rattle.layout.specs.Lent.{lent};
-ghost use Rattle.viewcalls.specs.Checks.{latestBy, checked};
+ghost use Rattle.viewcalls.specs.Checks.{latest_by, checked};
 
 use commits::{Place, commits_formed, count_at, find_commit, lsn_at};
-use core::id;
-use core::id::{LogId, VolumeId};
-use core::lsn::Lsn;
-use core::page_count::PageCount;
+use basics::id;
+use basics::id::{LogId, VolumeId};
+use basics::lsn::Lsn;
+use basics::page_count::PageCount;
 use pagecalls::YesAnswer;
 use table::Spot;
 use volume::snapshot::{LogRange, Snapshot, SnapshotAnswer};
@@ -26,7 +26,7 @@ use volumes::{find_volume, volume_at, volumes_formed};
 
 // A snapshot of one range.
 fn one_range(range: LogRange, count: u32) -> Snapshot
-    ensures { result ≡ laid (record { path = rangeSays range ∷ []; count = count }) }
+    ensures { result ≡ laid (record { path = range_says range ∷ []; count = count }) }
 {
     let none = Snapshot::empty(PageCount(count));
     let mut path = none.path;
@@ -40,7 +40,7 @@ fn one_range(range: LogRange, count: u32) -> Snapshot
 
 // A snapshot of two ranges.
 fn two_ranges(range: LogRange, next: LogRange, count: u32) -> Snapshot
-    ensures { result ≡ laid (record { path = rangeSays range ∷ rangeSays next ∷ []; count = count }) }
+    ensures { result ≡ laid (record { path = range_says range ∷ range_says next ∷ []; count = count }) }
 {
     let none = Snapshot::empty(PageCount(count));
     let mut path = none.path;
@@ -57,7 +57,7 @@ fn two_ranges(range: LogRange, next: LogRange, count: u32) -> Snapshot
 
 // The watermark, which may be missing.
 pub fn watermark_of(sync: Sync) -> MaybeLsn
-    ensures { maybeLsnSays result ≡ watermarkOf (syncSays sync) }
+    ensures { maybe_lsn_says result ≡ watermark_of (sync_says sync) }
 {
     match sync {
         Sync::Missing => MaybeLsn::Missing,
@@ -67,7 +67,7 @@ pub fn watermark_of(sync: Sync) -> MaybeLsn
 
 // The remote LSN that was synced, which is missing with the sync point.
 pub fn remote_of(sync: Sync) -> MaybeLsn
-    ensures { maybeLsnSays result ≡ remoteOf (syncSays sync) }
+    ensures { maybe_lsn_says result ≡ remote_of (sync_says sync) }
 {
     match sync {
         Sync::Missing => MaybeLsn::Missing,
@@ -80,7 +80,7 @@ pub fn remote_of(sync: Sync) -> MaybeLsn
 
 // Whether a watermark is missing or below an LSN.
 pub fn is_below(watermark: MaybeLsn, lsn: u64) -> bool
-    ensures { result ≡ below (maybeLsnSays watermark) lsn }
+    ensures { result ≡ below (maybe_lsn_says watermark) lsn }
 {
     match watermark {
         MaybeLsn::Missing => true,
@@ -90,8 +90,8 @@ pub fn is_below(watermark: MaybeLsn, lsn: u64) -> bool
 
 // The LSN after a watermark that is below another, or 1.
 fn lsn_after(watermark: MaybeLsn, lsn: u64) -> u64
-    requires { below (maybeLsnSays watermark) lsn ≡ true }
-    ensures { result ≡ after (maybeLsnSays watermark) }
+    requires { below (maybe_lsn_says watermark) lsn ≡ true }
+    ensures { result ≡ after (maybe_lsn_says watermark) }
 {
     match watermark {
         MaybeLsn::Missing => 1,
@@ -103,8 +103,8 @@ fn lsn_after(watermark: MaybeLsn, lsn: u64) -> u64
 
 // What is seen of the remote alone: all up to the commit at sync.remote, or nothing where that is not stored.
 fn remote_snapshot(commits: &[u8], v: Volume) -> Snapshot
-    requires { commitsOk commits.now ≡ true }
-    ensures { result ≡ laid (remoteSnapshot (commitsIn commits.now) (volumeSays v) (remoteOf (syncSays v.sync))) }
+    requires { commits_ok commits.now ≡ true }
+    ensures { result ≡ laid (remote_snapshot (commits_in commits.now) (volume_says v) (remote_of (sync_says v.sync))) }
 {
     let log = v.remote;
     let sync = v.sync;
@@ -124,8 +124,8 @@ fn remote_snapshot(commits: &[u8], v: Volume) -> Snapshot
 
 // A volume's snapshot.
 pub fn snapshot_of(commits: &[u8], v: Volume) -> Snapshot
-    requires { commitsOk commits.now ≡ true }
-    ensures { result ≡ laid (snapshotOf (commitsIn commits.now) (volumeSays v)) }
+    requires { commits_ok commits.now ≡ true }
+    ensures { result ≡ laid (snapshot_of (commits_in commits.now) (volume_says v)) }
 {
     let local = v.local;
     let remote = v.remote;
@@ -157,7 +157,7 @@ pub fn snapshot_of(commits: &[u8], v: Volume) -> Snapshot
 
 // A refusal: its number, and the empty snapshot.
 fn no_snapshot(code: u32) -> SnapshotAnswer
-    ensures { result ≡ laidAnswer (refused code) }
+    ensures { result ≡ laid_answer (refused code) }
 {
     let snapshot = Snapshot::empty(PageCount(0));
     SnapshotAnswer { code, snapshot }
@@ -165,7 +165,7 @@ fn no_snapshot(code: u32) -> SnapshotAnswer
 
 // The snapshot of the volume of an identifier: 20, 4.
 pub fn snapshot(volumes: &[u8], commits: &[u8], vid: VolumeId) -> SnapshotAnswer
-    ensures { result ≡ laidAnswer (lent (volumesOk volumes.now && commitsOk commits.now) (snapshotRule (volumesIn volumes.now) (commitsIn commits.now) vid)) }
+    ensures { result ≡ laid_answer (lent (volumes_ok volumes.now && commits_ok commits.now) (snapshotRule (volumes_in volumes.now) (commits_in commits.now) vid)) }
 {
     if !volumes_formed(volumes) {
         return no_snapshot(20);
@@ -184,8 +184,8 @@ pub fn snapshot(volumes: &[u8], commits: &[u8], vid: VolumeId) -> SnapshotAnswer
 
 // The LSN of a log's latest commit, which may be missing.
 fn latest_of(commits: &[u8], log: LogId) -> MaybeLsn
-    requires { commitsOk commits.now ≡ true }
-    ensures { maybeLsnSays result ≡ latestLsn (commitsIn commits.now) log }
+    requires { commits_ok commits.now ≡ true }
+    ensures { maybe_lsn_says result ≡ latest_lsn (commits_in commits.now) log }
 {
     let Place::At(i) = commits::latest(commits, log) else {
         return MaybeLsn::Missing;
@@ -195,7 +195,7 @@ fn latest_of(commits: &[u8], log: LogId) -> MaybeLsn
 
 // Whether an LSN is there and is that one.
 fn is_at(o: MaybeLsn, lsn: Lsn) -> bool
-    ensures { result ≡ isAt (maybeLsnSays o) lsn.0 }
+    ensures { result ≡ is_at (maybe_lsn_says o) lsn.0 }
 {
     match o {
         MaybeLsn::Missing => false,
@@ -205,7 +205,7 @@ fn is_at(o: MaybeLsn, lsn: Lsn) -> bool
 
 // Whether a range names the local log and ends at its head, or names the remote and ends at sync.remote; the local log is tested first.
 fn range_latest(v: Volume, head: MaybeLsn, range: LogRange) -> bool
-    ensures { result ≡ latestBy (volumeSays v) (maybeLsnSays head) (rangeSays range) }
+    ensures { result ≡ latest_by (volume_says v) (maybe_lsn_says head) (range_says range) }
 {
     let local = v.local;
     let remote = v.remote;
@@ -223,7 +223,7 @@ fn range_latest(v: Volume, head: MaybeLsn, range: LogRange) -> bool
 
 // Whether a range names the remote and not the local log.
 fn is_remote(v: Volume, range: LogRange) -> bool
-    ensures { result ≡ isRemote (volumeSays v) (rangeSays range) }
+    ensures { result ≡ is_remote (volume_says v) (range_says range) }
 {
     let local = v.local;
     let remote = v.remote;
@@ -237,7 +237,7 @@ fn is_remote(v: Volume, range: LogRange) -> bool
 // Whether each of the first ranges of a path is latest.
 fn all_latest(v: Volume, head: MaybeLsn, path: [LogRange; 8], len: usize) -> bool
     requires { len ≤ 8 }
-    ensures { result ≡ all (λ x. latestBy (volumeSays v) (maybeLsnSays head) (rangeSays x)) (take len path) }
+    ensures { result ≡ all (λ x. latest_by (volume_says v) (maybe_lsn_says head) (range_says x)) (take len path) }
 {
     let mut i: usize = 0;
     while i < len {
@@ -253,7 +253,7 @@ fn all_latest(v: Volume, head: MaybeLsn, path: [LogRange; 8], len: usize) -> boo
 // Whether one of the first ranges of a path is remote.
 fn any_remote(v: Volume, path: [LogRange; 8], len: usize) -> bool
     requires { len ≤ 8 }
-    ensures { result ≡ any (λ x. isRemote (volumeSays v) (rangeSays x)) (take len path) }
+    ensures { result ≡ any (λ x. is_remote (volume_says v) (range_says x)) (take len path) }
 {
     let mut i: usize = 0;
     while i < len {
@@ -268,7 +268,7 @@ fn any_remote(v: Volume, path: [LogRange; 8], len: usize) -> bool
 
 // Whether there is neither a head nor a sync.
 fn is_fresh(head: MaybeLsn, sync: Sync) -> bool
-    ensures { result ≡ is_none (maybeLsnSays head) && is_none (syncSays sync) }
+    ensures { result ≡ is_none (maybe_lsn_says head) && is_none (sync_says sync) }
 {
     match head {
         MaybeLsn::Missing => match sync {
@@ -281,7 +281,7 @@ fn is_fresh(head: MaybeLsn, sync: Sync) -> bool
 
 // Whether a remote range is there exactly if there is a sync.
 fn fits_sync(found: bool, sync: Sync) -> bool
-    ensures { result ≡ sameAnswer found (is_some (syncSays sync)) }
+    ensures { result ≡ same_answer found (is_some (sync_says sync)) }
 {
     match sync {
         Sync::Missing => !found,
@@ -291,8 +291,8 @@ fn fits_sync(found: bool, sync: Sync) -> bool
 
 // Whether a snapshot is a volume's latest.
 pub fn is_latest(commits: &[u8], v: Volume, s: Snapshot) -> bool
-    requires { (commitsOk commits.now ≡ true) × (s.len ≤ 8) }
-    ensures { result ≡ isLatest (commitsIn commits.now) (volumeSays v) (snapshotSays s) }
+    requires { (commits_ok commits.now ≡ true) × (s.len ≤ 8) }
+    ensures { result ≡ is_latest (commits_in commits.now) (volume_says v) (snapshot_says s) }
 {
     let local = v.local;
     let sync = v.sync;
@@ -310,7 +310,7 @@ pub fn is_latest(commits: &[u8], v: Volume, s: Snapshot) -> bool
 
 // Whether a snapshot is the latest of the volume of an identifier: 20, 1, 2, 3, 4.
 pub fn latest_check(volumes: &[u8], commits: &[u8], vid: VolumeId, s: Snapshot) -> YesAnswer
-    ensures { yesSays result ≡ lent (volumesOk volumes.now && commitsOk commits.now) (checked (volumesIn volumes.now) (commitsIn commits.now) vid s) }
+    ensures { yes_says result ≡ lent (volumes_ok volumes.now && commits_ok commits.now) (checked (volumes_in volumes.now) (commits_in commits.now) vid s) }
 {
     if !volumes_formed(volumes) {
         return YesAnswer::Refused(20);

@@ -1,8 +1,8 @@
 -- What each value of the code says: the volume, sync point, pending commit and LSN of the rules, and document 01's number of an answer.
 use Rattle.std.specs.Prelude.{ℕ, List}
 use Rattle.std.proofs.Math.Option.{Option, none, some}
-use Rattle.std.specs.Answers.{Answer, refused, done}
-use Rattle.std.specs.Hashes.{zeroHash}
+use Rattle.basics.specs.Answers.{Answer, refused, done}
+use Rattle.basics.specs.Hashes.{zero_hash}
 use Rattle.rules.specs.Records as rules
 use Rattle.volume.specs.declared.volume.MaybeLsn.{MaybeLsn}
 use Rattle.volume.specs.declared.volume.MaybeLsn.TheVariants as MaybeLsn
@@ -15,31 +15,31 @@ use Rattle.volume.specs.declared.volume.ChangesAnswer.TheVariants as ChangesAnsw
 use Rattle.volume.specs.declared.volume.Volume.{Volume}
 
 -- an LSN that may be missing
-abbrev pub maybeLsnSays : MaybeLsn → Option ℕ
-maybeLsnSays MaybeLsn.Missing = none
-maybeLsnSays (MaybeLsn.At n) = some n.0
+abbrev pub maybe_lsn_says : MaybeLsn → Option ℕ
+maybe_lsn_says MaybeLsn.Missing = none
+maybe_lsn_says (MaybeLsn.At n) = some n.0
 
 -- a sync point that may be missing, with its watermark
-abbrev pub syncSays : Sync → Option rules.SyncPoint
-syncSays Sync.Missing = none
-syncSays (Sync.At p) = some (record { remote = p.remote.0; watermark = maybeLsnSays p.watermark })
+abbrev pub sync_says : Sync → Option rules.SyncPoint
+sync_says Sync.Missing = none
+sync_says (Sync.At p) = some (record { remote = p.remote.0; watermark = maybe_lsn_says p.watermark })
 
 -- a pending commit that may be missing, with the hash that stands beside it
-abbrev pub pendingSays : PendingCommit → List ℕ → Option rules.Pending
-pendingSays PendingCommit.Missing hash = none
-pendingSays (PendingCommit.At local commit) hash = some (record { local = local.0; commit = commit.0; hash = hash })
+abbrev pub pending_says : PendingCommit → List ℕ → Option rules.Pending
+pending_says PendingCommit.Missing hash = none
+pending_says (PendingCommit.At local commit) hash = some (record { local = local.0; commit = commit.0; hash = hash })
 
 -- a volume
-abbrev pub volumeSays : Volume → rules.Volume
-volumeSays v = record { vid = v.vid; local = v.local; remote = v.remote; sync = syncSays v.sync; pending = pendingSays v.pending v.pending_hash }
+abbrev pub volume_says : Volume → rules.Volume
+volume_says v = record { vid = v.vid; local = v.local; remote = v.remote; sync = sync_says v.sync; pending = pending_says v.pending v.pending_hash }
 
 -- the hash beside a pending commit: its own, and ZERO beside none
-abbrev pub hashBeside : PendingCommit → List ℕ → List ℕ
-hashBeside PendingCommit.Missing hash = zeroHash
-hashBeside (PendingCommit.At local commit) hash = hash
+abbrev pub hash_beside : PendingCommit → List ℕ → List ℕ
+hash_beside PendingCommit.Missing hash = zero_hash
+hash_beside (PendingCommit.At local commit) hash = hash
 
 -- changes: a range of LSNs, nothing, or a number
-abbrev pub changesSays : ChangesAnswer → Answer (Option (ℕ × ℕ))
-changesSays (ChangesAnswer.Refused n) = refused n
-changesSays (ChangesAnswer.Range start end) = done (some (start.0, end.0))
-changesSays ChangesAnswer.Nothing = done none
+abbrev pub changes_says : ChangesAnswer → Answer (Option (ℕ × ℕ))
+changes_says (ChangesAnswer.Refused n) = refused n
+changes_says (ChangesAnswer.Range start end) = done (some (start.0, end.0))
+changes_says ChangesAnswer.Nothing = done none

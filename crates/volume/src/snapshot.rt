@@ -1,15 +1,15 @@
 // Snapshots: a path of at most 8 log ranges, and a page count.
 ghost use Rattle.std.specs.Prelude.{◌≡◌, ◌<◌, [], take, drop};
-ghost use Rattle.std.specs.Answers.{refused as refusedRule};
+ghost use Rattle.basics.specs.Answers.{refused as refusedRule};
 ghost use Rattle.rules.specs.Lists.{all};
-ghost use Rattle.rules.specs.Arguments.{rangeLsns, rangeOrder, snapshotLsns, snapshotOrder, snapshotNew};
-ghost use Rattle.volume.specs.Snapshots.{rangeSays, snapshotSays, no_range, isZeroRange, passesTest, inForm, laid, laidAnswer, zeroCode, withRange, appended, head_of, laidHead, isEmptyPath};
+ghost use Rattle.rules.specs.Arguments.{range_lsns, range_order, snapshot_lsns, snapshot_order, snapshot_new};
+ghost use Rattle.volume.specs.Snapshots.{range_says, snapshot_says, no_range, is_zero_range, passes_test, in_form, laid, laid_answer, zero_code, with_range, appended, head_of, laid_head, is_empty_path};
 
 use crate::volume::MaybeLsn;
-use core::id;
-use core::id::LogId;
-use core::lsn::Lsn;
-use core::page_count::PageCount;
+use basics::id;
+use basics::id::LogId;
+use basics::lsn::Lsn;
+use basics::page_count::PageCount;
 
 // A log and a range of its LSNs, both ends included.
 #[derive(Drop)]
@@ -64,7 +64,7 @@ impl LogRange {
 
     // Whether all of the range is zero.
     fn is_zero(self) -> bool
-        ensures { result ≡ isZeroRange self }
+        ensures { result ≡ is_zero_range self }
     {
         let log = self.log;
         if self.start.0 != 0 {
@@ -78,7 +78,7 @@ impl LogRange {
 
     // Whether neither LSN is 0.
     pub fn has_lsns(self) -> bool
-        ensures { result ≡ rangeLsns (rangeSays self) }
+        ensures { result ≡ range_lsns (range_says self) }
     {
         if self.start.0 == 0 {
             return false;
@@ -88,14 +88,14 @@ impl LogRange {
 
     // Whether the start is not above the end.
     pub fn is_ordered(self) -> bool
-        ensures { result ≡ rangeOrder (rangeSays self) }
+        ensures { result ≡ range_order (range_says self) }
     {
         self.start.0 <= self.end.0
     }
 
     // Whether the range passes a test.
     fn passes(self, test: RangeTest) -> bool
-        ensures { result ≡ passesTest test self }
+        ensures { result ≡ passes_test test self }
     {
         match test {
             RangeTest::Lsns => self.has_lsns(),
@@ -107,7 +107,7 @@ impl LogRange {
 
 // Whether each range of a path from one place up to another passes a test.
 fn all_pass(path: [LogRange; 8], from: usize, to: usize, test: RangeTest) -> bool
-    ensures { result ≡ all (passesTest test) (drop from (take to path)) }
+    ensures { result ≡ all (passes_test test) (drop from (take to path)) }
 {
     let mut i = from;
     while i < to {
@@ -139,7 +139,7 @@ impl Snapshot {
 
     // Whether no LSN of its ranges is 0.
     pub fn has_lsns(self) -> bool
-        ensures { result ≡ snapshotLsns (snapshotSays self) }
+        ensures { result ≡ snapshot_lsns (snapshot_says self) }
     {
         let path = self.path;
         all_pass(path, 0, self.len, RangeTest::Lsns)
@@ -147,7 +147,7 @@ impl Snapshot {
 
     // Whether no range starts above its end.
     pub fn is_ordered(self) -> bool
-        ensures { result ≡ snapshotOrder (snapshotSays self) }
+        ensures { result ≡ snapshot_order (snapshot_says self) }
     {
         let path = self.path;
         all_pass(path, 0, self.len, RangeTest::Order)
@@ -155,7 +155,7 @@ impl Snapshot {
 
     // Whether it has at most 8 ranges, and zero past them.
     pub fn is_formed(self) -> bool
-        ensures { result ≡ inForm self }
+        ensures { result ≡ in_form self }
     {
         let len = self.len;
         let path = self.path;
@@ -168,7 +168,7 @@ impl Snapshot {
     // The same with a range more, the last of the path.
     fn with_range(self, range: LogRange) -> Snapshot
         requires { self.len < 8 }
-        ensures { result ≡ withRange self range }
+        ensures { result ≡ with_range self range }
     {
         let len = self.len;
         let count = self.count;
@@ -183,7 +183,7 @@ impl Snapshot {
 
     // A snapshot of one range: 1 for an LSN 0, 2 for a start above the end.
     pub fn new(range: LogRange, count: PageCount) -> SnapshotAnswer
-        ensures { result ≡ laidAnswer (snapshotNew (rangeSays range) count.0) }
+        ensures { result ≡ laid_answer (snapshot_new (range_says range) count.0) }
     {
         if !range.has_lsns() {
             return refused(1);
@@ -196,7 +196,7 @@ impl Snapshot {
 
     // The snapshot with a range more, the last of the path: 1 for an LSN 0, 2 for a start above the end, 3 for a ninth range or a snapshot that is not in form.
     pub fn append(self, range: LogRange) -> SnapshotAnswer
-        ensures { result ≡ laidAnswer (appended self range) }
+        ensures { result ≡ laid_answer (appended self range) }
     {
         if !self.has_lsns() {
             return refused(1);
@@ -221,7 +221,7 @@ impl Snapshot {
 
     // The log and the end of the path's first range, or nothing.
     pub fn head(self) -> Head
-        ensures { result ≡ laidHead (head_of (snapshotSays self)) }
+        ensures { result ≡ laid_head (head_of (snapshot_says self)) }
     {
         let path = self.path;
         if self.len == 0 {
@@ -242,7 +242,7 @@ impl Snapshot {
 
     // Whether no range is on the path.
     pub fn is_empty(self) -> bool
-        ensures { result ≡ isEmptyPath (snapshotSays self) }
+        ensures { result ≡ is_empty_path (snapshot_says self) }
     {
         self.len == 0
     }
@@ -250,7 +250,7 @@ impl Snapshot {
 
 // A refusal: its number, and the empty snapshot.
 fn refused(code: u32) -> SnapshotAnswer
-    ensures { result ≡ laidAnswer (refusedRule code) }
+    ensures { result ≡ laid_answer (refusedRule code) }
 {
     let snapshot = Snapshot::empty(PageCount(0));
     SnapshotAnswer {
@@ -261,7 +261,7 @@ fn refused(code: u32) -> SnapshotAnswer
 
 // A snapshot under the number 0.
 fn answered(snapshot: Snapshot) -> SnapshotAnswer
-    ensures { result ≡ zeroCode snapshot }
+    ensures { result ≡ zero_code snapshot }
 {
     SnapshotAnswer {
         code: 0,

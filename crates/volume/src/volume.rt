@@ -1,15 +1,15 @@
 // Volumes: two logs, the sync point and the pending commit; and what changed in a log since a base.
 ghost use Rattle.std.specs.Prelude.{◌≡◌};
 ghost use Rattle.std.proofs.Math.Option.{none, some};
-ghost use Rattle.std.specs.Int.{counts};
+ghost use Rattle.basics.specs.Numbers.{counts};
 ghost use Rattle.rules.specs.Lists.{given};
 ghost use Rattle.rules.specs.Sync.{changed, changes as changesRule};
-ghost use Rattle.volume.specs.Volumes.{maybeLsnSays, changesSays, hashBeside};
+ghost use Rattle.volume.specs.Volumes.{maybe_lsn_says, changes_says, hash_beside};
 
-use core::commit_hash;
-use core::commit_hash::CommitHash;
-use core::id::{LogId, VolumeId};
-use core::lsn::Lsn;
+use basics::commit_hash;
+use basics::commit_hash::CommitHash;
+use basics::id::{LogId, VolumeId};
+use basics::lsn::Lsn;
 
 // An LSN that may be missing.
 #[derive(Drop)]
@@ -60,7 +60,7 @@ pub enum ChangesAnswer {
 
 // The hash that stands beside a pending commit: its own, and ZERO beside none.
 fn hash_beside(pending: PendingCommit, hash: CommitHash) -> CommitHash
-    ensures { result ≡ hashBeside pending hash }
+    ensures { result ≡ hash_beside pending hash }
 {
     match pending {
         PendingCommit::Missing => commit_hash::zero(),
@@ -81,7 +81,7 @@ impl Volume {
         pending: PendingCommit,
         hash: CommitHash,
     ) -> Volume
-        ensures { result ≡ record { vid = vid; local = local; remote = remote; sync = sync; pending = pending; pending_hash = hashBeside pending hash } }
+        ensures { result ≡ record { vid = vid; local = local; remote = remote; sync = sync; pending = pending; pending_hash = hash_beside pending hash } }
     {
         let pending_hash = hash_beside(pending, hash);
         Volume {
@@ -115,7 +115,7 @@ impl Volume {
 
     // The volume with this pending commit and its hash, or with none.
     pub fn with_pending_commit(self, pending: PendingCommit, hash: CommitHash) -> Volume
-        ensures { result ≡ record { vid = self.vid; local = self.local; remote = self.remote; sync = self.sync; pending = pending; pending_hash = hashBeside pending hash } }
+        ensures { result ≡ record { vid = self.vid; local = self.local; remote = self.remote; sync = self.sync; pending = pending; pending_hash = hash_beside pending hash } }
     {
         let vid = self.vid;
         let local = self.local;
@@ -135,7 +135,7 @@ impl Volume {
 
 // Whether an LSN is missing or not 0.
 fn counts_or_missing(n: MaybeLsn) -> bool
-    ensures { result ≡ given counts (maybeLsnSays n) }
+    ensures { result ≡ given counts (maybe_lsn_says n) }
 {
     match n {
         MaybeLsn::Missing => true,
@@ -145,7 +145,7 @@ fn counts_or_missing(n: MaybeLsn) -> bool
 
 // Without a base: all LSNs up to the head, or nothing where it is missing too.
 fn all_changes(head: MaybeLsn) -> ChangesAnswer
-    ensures { changesSays result ≡ changed none (maybeLsnSays head) }
+    ensures { changes_says result ≡ changed none (maybe_lsn_says head) }
 {
     match head {
         MaybeLsn::Missing => ChangesAnswer::Nothing,
@@ -158,7 +158,7 @@ fn all_changes(head: MaybeLsn) -> ChangesAnswer
 
 // Above a base: the LSNs up to the head, or nothing where the base is not below it; 16 where it is missing.
 fn changes_above(base: Lsn, head: MaybeLsn) -> ChangesAnswer
-    ensures { changesSays result ≡ changed (some base.0) (maybeLsnSays head) }
+    ensures { changes_says result ≡ changed (some base.0) (maybe_lsn_says head) }
 {
     let MaybeLsn::At(end) = head else {
         return ChangesAnswer::Refused(16);
@@ -176,7 +176,7 @@ fn changes_above(base: Lsn, head: MaybeLsn) -> ChangesAnswer
 
 // The LSNs above the base up to the head, or nothing: 1 for LSN 0, 16 for a base without a head.
 pub fn changes(base: MaybeLsn, head: MaybeLsn) -> ChangesAnswer
-    ensures { changesSays result ≡ changesRule (maybeLsnSays base) (maybeLsnSays head) }
+    ensures { changes_says result ≡ changesRule (maybe_lsn_says base) (maybe_lsn_says head) }
 {
     if !counts_or_missing(base) {
         return ChangesAnswer::Refused(1);

@@ -4,14 +4,14 @@ use mathlib.Core.Option.{Option, none, some}
 use Rattle.octets.specs.Bytes.{be, part}
 use Rattle.rules.specs.Records as rules
 use Rattle.layout.specs.Codecs.{number, reserved, optional, pair}
-use Rattle.layout.specs.Values.{idBytes}
-use Rattle.layout.specs.Records.{hashBytes, syncBytes, pendingBytes, volumeBytes}
-use Rattle.layout.proofs.PlaceLaws.{pair_read, reserved-read, optional-read}
-use Rattle.volume.specs.Volumes.{hashBeside}
+use Rattle.layout.specs.Values.{id_bytes}
+use Rattle.layout.specs.Records.{hash_bytes, sync_bytes, pending_bytes, volume_bytes}
+use Rattle.layout.proofs.PlaceLaws.{pair_read, reserved_read, optional_read}
+use Rattle.volume.specs.Volumes.{hash_beside}
 use Rattle.volume.specs.declared.volume.Sync.{Sync}
 use Rattle.volume.specs.declared.volume.PendingCommit.{PendingCommit}
 use Rattle.volume.specs.declared.volume.Volume.{Volume}
-use Rattle.volumebytes.specs.Laid.{syncLaid, pendingLaid, hashLaid, volumeLaid}
+use Rattle.volumebytes.specs.Laid.{sync_laid, pending_laid, hash_laid, volume_laid}
 
 -- the sync point and the pending commit, and a volume of its parts
 abbrev States : Type 0
@@ -22,44 +22,44 @@ whole vid local remote x = record { vid = vid; local = local; remote = remote; s
 
 module _ (s : List ℕ) (at : ℕ) where
   -- a sync point
-  pub sync-read : (bt : ℕ) → at + 8 ≡ bt → syncBytes.read (part at 17 s) ≡ record { remote = be (part at 8 s); watermark = (optional (number 8)).read (part bt 9 s) }
-  unfolding syncBytes
-  sync-read bt e = ap (λ (x : ℕ × Option ℕ). record { remote = x.0; watermark = x.1 }) (pair_read s at (number 8) (optional (number 8)) bt e)
+  pub sync_read : (bt : ℕ) → at + 8 ≡ bt → sync_bytes.read (part at 17 s) ≡ record { remote = be (part at 8 s); watermark = (optional (number 8)).read (part bt 9 s) }
+  unfolding sync_bytes
+  sync_read bt e = ap (λ (x : ℕ × Option ℕ). record { remote = x.0; watermark = x.1 }) (pair_read s at (number 8) (optional (number 8)) bt e)
 
   -- a pending commit
-  pub pending-read : (bt ct : ℕ) → at + 8 ≡ bt → at + 16 ≡ ct
-      → pendingBytes.read (part at 48 s) ≡ record { local = be (part at 8 s); commit = be (part bt 8 s); hash = part ct 32 s }
-  unfolding pendingBytes
-  pending-read bt ct e f =
-      ap (λ (x : ℕ × (ℕ × List ℕ)). record { local = x.0; commit = x.1.0; hash = x.1.1 }) (pair_read s at (number 8) (pair (number 8) hashBytes) bt e)
-      ∙ ap (λ (x : ℕ × List ℕ). record { local = be (part at 8 s); commit = x.0; hash = x.1 }) (pair_read s bt (number 8) hashBytes ct (omega arith))
+  pub pending_read : (bt ct : ℕ) → at + 8 ≡ bt → at + 16 ≡ ct
+      → pending_bytes.read (part at 48 s) ≡ record { local = be (part at 8 s); commit = be (part bt 8 s); hash = part ct 32 s }
+  unfolding pending_bytes
+  pending_read bt ct e f =
+      ap (λ (x : ℕ × (ℕ × List ℕ)). record { local = x.0; commit = x.1.0; hash = x.1.1 }) (pair_read s at (number 8) (pair (number 8) hash_bytes) bt e)
+      ∙ ap (λ (x : ℕ × List ℕ). record { local = be (part at 8 s); commit = x.0; hash = x.1 }) (pair_read s bt (number 8) hash_bytes ct (omega arith))
 
 module _ (s : List ℕ) (at : ℕ) where
   -- the hash that stands beside the pending commit
-  hash-read : (bt : ℕ) → at + 17 ≡ bt → hashBeside (pendingLaid ((optional pendingBytes).read (part at 49 s))) (part bt 32 s) ≡ hashLaid ((optional pendingBytes).read (part at 49 s))
-  unfolding pendingBytes
-  hash-read bt e =
-      ap (λ (p : Option rules.Pending). hashBeside (pendingLaid p) (part bt 32 s)) (optional-read s at pendingBytes)
-      ∙ go (eqb (be (part at 1 s)) 0) (pendingBytes.read (part (at + 1) 48 s)) (ap (λ (p : rules.Pending). p.hash) (pending-read s (at + 1) (at + 9) bt (omega arith) (omega arith)))
-      ∙ ap hashLaid (sym (optional-read s at pendingBytes))
+  hash_read : (bt : ℕ) → at + 17 ≡ bt → hash_beside (pending_laid ((optional pending_bytes).read (part at 49 s))) (part bt 32 s) ≡ hash_laid ((optional pending_bytes).read (part at 49 s))
+  unfolding pending_bytes
+  hash_read bt e =
+      ap (λ (p : Option rules.Pending). hash_beside (pending_laid p) (part bt 32 s)) (optional_read s at pending_bytes)
+      ∙ go (eqb (be (part at 1 s)) 0) (pending_bytes.read (part (at + 1) 48 s)) (ap (λ (p : rules.Pending). p.hash) (pending_read s (at + 1) (at + 9) bt (omega arith) (omega arith)))
+      ∙ ap hash_laid (sym (optional_read s at pending_bytes))
     where
-      go : (z : Bool) (p : rules.Pending) → p.hash ≡ part bt 32 s → hashBeside (pendingLaid (cond z none (some p))) (part bt 32 s) ≡ hashLaid (cond z none (some p))
+      go : (z : Bool) (p : rules.Pending) → p.hash ≡ part bt 32 s → hash_beside (pending_laid (cond z none (some p))) (part bt 32 s) ≡ hash_laid (cond z none (some p))
       go true p h = refl
       go false p h = sym h
 
   -- a volume
-  volume-read : volumeBytes.read (part at 117 s)
-      ≡ record { vid = part (at + 1) 16 s; local = part (at + 18) 16 s; remote = part (at + 34) 16 s; sync = (optional syncBytes).read (part (at + 50) 18 s); pending = (optional pendingBytes).read (part (at + 68) 49 s) }
-  unfolding syncBytes pendingBytes volumeBytes
-  volume-read =
+  volume_read_lem : volume_bytes.read (part at 117 s)
+      ≡ record { vid = part (at + 1) 16 s; local = part (at + 18) 16 s; remote = part (at + 34) 16 s; sync = (optional sync_bytes).read (part (at + 50) 18 s); pending = (optional pending_bytes).read (part (at + 68) 49 s) }
+  unfolding sync_bytes pending_bytes volume_bytes
+  volume_read_lem =
       ap (λ (x : rules.Id × (rules.Id × (rules.Id × States))). whole x.0 x.1.0 x.1.1.0 x.1.1.1)
-      (pair_read s at (reserved idBytes) (pair (reserved idBytes) (pair idBytes (pair (optional syncBytes) (optional pendingBytes)))) (at + 17) refl)
-      ∙ ap₂ (λ (v : rules.Id) (x : rules.Id × (rules.Id × States)). whole v x.0 x.1.0 x.1.1) (reserved-read s at idBytes)
-      (pair_read s (at + 17) (reserved idBytes) (pair idBytes (pair (optional syncBytes) (optional pendingBytes))) (at + 34) (omega arith))
+      (pair_read s at (reserved id_bytes) (pair (reserved id_bytes) (pair id_bytes (pair (optional sync_bytes) (optional pending_bytes)))) (at + 17) refl)
+      ∙ ap₂ (λ (v : rules.Id) (x : rules.Id × (rules.Id × States)). whole v x.0 x.1.0 x.1.1) (reserved_read s at id_bytes)
+      (pair_read s (at + 17) (reserved id_bytes) (pair id_bytes (pair (optional sync_bytes) (optional pending_bytes))) (at + 34) (omega arith))
       ∙ ap₂ (λ (l : rules.Id) (x : rules.Id × States). whole (part (at + 1) 16 s) l x.0 x.1)
-      (reserved-read s (at + 17) idBytes ∙ ap (λ (n : ℕ). part n 16 s) local)
-      (pair_read s (at + 34) idBytes (pair (optional syncBytes) (optional pendingBytes)) (at + 50) (omega arith))
-      ∙ ap (whole (part (at + 1) 16 s) (part (at + 18) 16 s) (part (at + 34) 16 s)) (pair_read s (at + 50) (optional syncBytes) (optional pendingBytes) (at + 68) (omega arith))
+      (reserved_read s (at + 17) id_bytes ∙ ap (λ (n : ℕ). part n 16 s) local)
+      (pair_read s (at + 34) id_bytes (pair (optional sync_bytes) (optional pending_bytes)) (at + 50) (omega arith))
+      ∙ ap (whole (part (at + 1) 16 s) (part (at + 18) 16 s) (part (at + 34) 16 s)) (pair_read s (at + 50) (optional sync_bytes) (optional pending_bytes) (at + 68) (omega arith))
     where
       local : at + 17 + 1 ≡ at + 18
       local = omega arith
@@ -67,18 +67,18 @@ module _ (s : List ℕ) (at : ℕ) where
 -- ---- a volume, read field by field
 
 module _ (s : List ℕ) (at : ℕ) where
-  pub volume-made : (vid local remote : List ℕ) (sync : Sync) (pending : PendingCommit) (hash : List ℕ)
+  pub volume_made : (vid local remote : List ℕ) (sync : Sync) (pending : PendingCommit) (hash : List ℕ)
       → vid ≡ part (at + 1) 16 s
       → local ≡ part (at + 18) 16 s
       → remote ≡ part (at + 34) 16 s
-      → sync ≡ syncLaid ((optional syncBytes).read (part (at + 50) 18 s))
-      → pending ≡ pendingLaid ((optional pendingBytes).read (part (at + 68) 49 s))
+      → sync ≡ sync_laid ((optional sync_bytes).read (part (at + 50) 18 s))
+      → pending ≡ pending_laid ((optional pending_bytes).read (part (at + 68) 49 s))
       → hash ≡ part (at + 85) 32 s
-      → record { vid = vid; local = local; remote = remote; sync = sync; pending = pending; pending_hash = hashBeside pending hash } ≡ volumeLaid (volumeBytes.read (part at 117 s))
-  volume-made vid local remote sync pending hash v l m y p h =
+      → record { vid = vid; local = local; remote = remote; sync = sync; pending = pending; pending_hash = hash_beside pending hash } ≡ volume_laid (volume_bytes.read (part at 117 s))
+  volume_made vid local remote sync pending hash v l m y p h =
       rw (v, l, m, y, p, h)
-      (ap (λ (x : List ℕ). laid_of ((optional syncBytes).read (part (at + 50) 18 s)) ((optional pendingBytes).read (part (at + 68) 49 s)) x) (hash-read s (at + 68) (at + 85) (omega arith))
-      ∙ ap volumeLaid (sym (volume-read s at)))
+      (ap (λ (x : List ℕ). laid_of ((optional sync_bytes).read (part (at + 50) 18 s)) ((optional pending_bytes).read (part (at + 68) 49 s)) x) (hash_read s (at + 68) (at + 85) (omega arith))
+      ∙ ap volume_laid (sym (volume_read_lem s at)))
     where
       laid_of : Option rules.SyncPoint → Option rules.Pending → List ℕ → Volume
-      laid_of y p x = record { vid = part (at + 1) 16 s; local = part (at + 18) 16 s; remote = part (at + 34) 16 s; sync = syncLaid y; pending = pendingLaid p; pending_hash = x }
+      laid_of y p x = record { vid = part (at + 1) 16 s; local = part (at + 18) 16 s; remote = part (at + 34) 16 s; sync = sync_laid y; pending = pending_laid p; pending_hash = x }

@@ -1,8 +1,8 @@
 -- A volume of the rules as the value that the code holds: what is missing has its own case, and beside a missing pending commit stands the hash ZERO.
 use Rattle.std.specs.Prelude.{ℕ, List}
 use Rattle.std.proofs.Math.Option.{Option, none, some}
-use Rattle.std.specs.Hashes.{zeroHash}
-use Rattle.std.specs.Says.{lsnLaid}
+use Rattle.basics.specs.Hashes.{zero_hash}
+use Rattle.basics.specs.Says.{lsn_laid}
 use Rattle.rules.specs.Records as rules
 use Rattle.volume.specs.declared.volume.MaybeLsn.{MaybeLsn}
 use Rattle.volume.specs.declared.volume.MaybeLsn.TheVariants as MaybeLsn
@@ -14,36 +14,36 @@ use Rattle.volume.specs.declared.volume.PendingCommit.TheVariants as PendingComm
 use Rattle.volume.specs.declared.volume.Volume.{Volume}
 
 -- an LSN that may be missing
-abbrev pub markLaid : Option ℕ → MaybeLsn
-markLaid none = MaybeLsn.Missing
-markLaid (some n) = MaybeLsn.At (lsnLaid n)
+abbrev pub mark_laid : Option ℕ → MaybeLsn
+mark_laid none = MaybeLsn.Missing
+mark_laid (some n) = MaybeLsn.At (lsn_laid n)
 
 -- a sync point
-abbrev pub pointLaid : rules.SyncPoint → SyncPoint
-pointLaid p = record { remote = lsnLaid p.remote; watermark = markLaid p.watermark }
+abbrev pub point_laid : rules.SyncPoint → SyncPoint
+point_laid p = record { remote = lsn_laid p.remote; watermark = mark_laid p.watermark }
 
 -- a sync point that may be missing
-abbrev pub syncLaid : Option rules.SyncPoint → Sync
-syncLaid none = Sync.Missing
-syncLaid (some p) = Sync.At (pointLaid p)
+abbrev pub sync_laid : Option rules.SyncPoint → Sync
+sync_laid none = Sync.Missing
+sync_laid (some p) = Sync.At (point_laid p)
 
 -- a pending commit that may be missing
-abbrev pub pendingLaid : Option rules.Pending → PendingCommit
-pendingLaid none = PendingCommit.Missing
-pendingLaid (some p) = PendingCommit.At (lsnLaid p.local) (lsnLaid p.commit)
+abbrev pub pending_laid : Option rules.Pending → PendingCommit
+pending_laid none = PendingCommit.Missing
+pending_laid (some p) = PendingCommit.At (lsn_laid p.local) (lsn_laid p.commit)
 
 -- the hash beside it
-abbrev pub hashLaid : Option rules.Pending → List ℕ
-hashLaid none = zeroHash
-hashLaid (some p) = p.hash
+abbrev pub hash_laid : Option rules.Pending → List ℕ
+hash_laid none = zero_hash
+hash_laid (some p) = p.hash
 
 -- a volume
-abbrev pub volumeLaid : rules.Volume → Volume
-volumeLaid v = record {
+abbrev pub volume_laid : rules.Volume → Volume
+volume_laid v = record {
   vid = v.vid;
   local = v.local;
   remote = v.remote;
-  sync = syncLaid v.sync;
-  pending = pendingLaid v.pending;
-  pending_hash = hashLaid v.pending;
+  sync = sync_laid v.sync;
+  pending = pending_laid v.pending;
+  pending_hash = hash_laid v.pending;
 }

@@ -4,11 +4,11 @@ pub mod sync;
 
 ghost use Rattle.std.specs.Prelude.{◌≡◌, ◌+◌, ◌≤◌, length};
 ghost use Rattle.octets.specs.Bytes.{part, put};
-ghost use Rattle.rules.specs.Forms.{volumeForm};
-ghost use Rattle.volume.specs.Volumes.{volumeSays};
-ghost use Rattle.layout.specs.Codecs.{inForm};
-ghost use Rattle.layout.specs.Records.{volumeBytes};
-ghost use Rattle.volumebytes.specs.Laid.{volumeLaid};
+ghost use Rattle.rules.specs.Forms.{volume_form};
+ghost use Rattle.volume.specs.Volumes.{volume_says};
+ghost use Rattle.layout.specs.Codecs.{in_form};
+ghost use Rattle.layout.specs.Records.{volume_bytes};
+ghost use Rattle.volumebytes.specs.Laid.{volume_laid};
 
 use octets::{load_hash, load_id, load8, store_id, store8};
 use volume::volume::Volume;
@@ -16,7 +16,7 @@ use volume::volume::Volume;
 // Whether the 117 bytes at a place are a volume.
 pub fn volume_form(s: &[u8], at: usize) -> bool
     requires { at + 117 ≤ length s.now }
-    ensures { result ≡ inForm volumeBytes volumeForm (part at 117 s.now) }
+    ensures { result ≡ in_form volume_bytes volume_form (part at 117 s.now) }
 {
     if load8(s, at) != 0 {
         return false;
@@ -33,7 +33,7 @@ pub fn volume_form(s: &[u8], at: usize) -> bool
 // The volume in the 117 bytes at a place.
 pub fn volume_read(s: &[u8], at: usize) -> Volume
     requires { at + 117 ≤ length s.now }
-    ensures { result ≡ volumeLaid (volumeBytes.read (part at 117 s.now)) }
+    ensures { result ≡ volume_laid (volume_bytes.read (part at 117 s.now)) }
 {
     let vid = load_id(s, at + 1);
     let local = load_id(s, at + 18);
@@ -47,7 +47,7 @@ pub fn volume_read(s: &[u8], at: usize) -> Volume
 // The volume over the 117 bytes at a place.
 pub fn volume_write(s: &mut [u8], at: usize, v: Volume)
     requires { at + 117 ≤ length s.old }
-    ensures { s.new ≡ put at (volumeBytes.spell (volumeSays v)) s.old }
+    ensures { s.new ≡ put at (volume_bytes.spell (volume_says v)) s.old }
 {
     let vid = v.vid;
     let local = v.local;
@@ -67,7 +67,7 @@ pub fn volume_write(s: &mut [u8], at: usize, v: Volume)
 // The bytes of a volume over as many lent ones.
 pub fn put_out(out: &mut [u8], v: Volume)
     requires { length out.old ≡ 117 }
-    ensures { out.new ≡ volumeBytes.spell (volumeSays v) }
+    ensures { out.new ≡ volume_bytes.spell (volume_says v) }
 {
     volume_write(out, 0, v);
 }

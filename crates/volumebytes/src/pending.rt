@@ -2,21 +2,21 @@
 ghost use Rattle.std.specs.Prelude.{◌≡◌, ◌+◌, ◌≤◌, length};
 ghost use Rattle.octets.specs.Bytes.{part, put};
 ghost use Rattle.rules.specs.Lists.{given};
-ghost use Rattle.rules.specs.Forms.{pendingForm};
-ghost use Rattle.volume.specs.Volumes.{pendingSays};
-ghost use Rattle.layout.specs.Codecs.{optional, inForm};
-ghost use Rattle.layout.specs.Records.{pendingBytes};
-ghost use Rattle.volumebytes.specs.Laid.{pendingLaid};
+ghost use Rattle.rules.specs.Forms.{pending_form};
+ghost use Rattle.volume.specs.Volumes.{pending_says};
+ghost use Rattle.layout.specs.Codecs.{optional, in_form};
+ghost use Rattle.layout.specs.Records.{pending_bytes};
+ghost use Rattle.volumebytes.specs.Laid.{pending_laid};
 
-use core::commit_hash::CommitHash;
-use core::lsn::Lsn;
+use basics::commit_hash::CommitHash;
+use basics::lsn::Lsn;
 use octets::{all_zero, load8, load64, store_all, store_hash, store8, store64};
 use volume::volume::PendingCommit;
 
 // Whether the 48 bytes at a place are a pending commit; its hash may be any.
 fn commit_form(s: &[u8], at: usize) -> bool
     requires { at + 48 ≤ length s.now }
-    ensures { result ≡ inForm pendingBytes pendingForm (part at 48 s.now) }
+    ensures { result ≡ in_form pending_bytes pending_form (part at 48 s.now) }
 {
     if load64(s, at) == 0 {
         return false;
@@ -27,7 +27,7 @@ fn commit_form(s: &[u8], at: usize) -> bool
 // Whether the 49 bytes at a place are a pending commit, or none.
 pub fn pending_form(s: &[u8], at: usize) -> bool
     requires { at + 49 ≤ length s.now }
-    ensures { result ≡ inForm (optional pendingBytes) (given pendingForm) (part at 49 s.now) }
+    ensures { result ≡ in_form (optional pending_bytes) (given pending_form) (part at 49 s.now) }
 {
     let flag = load8(s, at);
     if flag == 0 {
@@ -42,7 +42,7 @@ pub fn pending_form(s: &[u8], at: usize) -> bool
 // The pending commit in the 49 bytes at a place, without its hash.
 pub fn pending_read(s: &[u8], at: usize) -> PendingCommit
     requires { at + 49 ≤ length s.now }
-    ensures { result ≡ pendingLaid ((optional pendingBytes).read (part at 49 s.now)) }
+    ensures { result ≡ pending_laid ((optional pending_bytes).read (part at 49 s.now)) }
 {
     if load8(s, at) == 0 {
         return PendingCommit::Missing;
@@ -55,7 +55,7 @@ pub fn pending_read(s: &[u8], at: usize) -> PendingCommit
 // The pending commit and its hash over the 49 bytes at a place; zeros where it is missing.
 pub fn pending_write(s: &mut [u8], at: usize, pending: PendingCommit, hash: CommitHash)
     requires { at + 49 ≤ length s.old }
-    ensures { s.new ≡ put at ((optional pendingBytes).spell (pendingSays pending hash)) s.old }
+    ensures { s.new ≡ put at ((optional pending_bytes).spell (pending_says pending hash)) s.old }
 {
     let PendingCommit::At { local, commit } = pending else {
         let none = [0u8; 49];

@@ -2,20 +2,20 @@
 ghost use Rattle.std.specs.Prelude.{◌≡◌, ◌+◌, ◌≤◌, length};
 ghost use Rattle.octets.specs.Bytes.{part, put};
 ghost use Rattle.rules.specs.Lists.{given};
-ghost use Rattle.rules.specs.Forms.{lsnForm, syncForm};
-ghost use Rattle.volume.specs.Volumes.{maybeLsnSays, syncSays};
-ghost use Rattle.layout.specs.Codecs.{number, optional, inForm};
-ghost use Rattle.layout.specs.Records.{syncBytes};
-ghost use Rattle.volumebytes.specs.Laid.{markLaid, syncLaid};
+ghost use Rattle.rules.specs.Forms.{lsn_form, sync_form};
+ghost use Rattle.volume.specs.Volumes.{maybe_lsn_says, sync_says};
+ghost use Rattle.layout.specs.Codecs.{number, optional, in_form};
+ghost use Rattle.layout.specs.Records.{sync_bytes};
+ghost use Rattle.volumebytes.specs.Laid.{mark_laid, sync_laid};
 
-use core::lsn::Lsn;
+use basics::lsn::Lsn;
 use octets::{all_zero, load8, load64, store_all, store8, store64};
 use volume::volume::{MaybeLsn, Sync, SyncPoint};
 
 // Whether the 9 bytes at a place are a watermark, or none.
 fn watermark_form(s: &[u8], at: usize) -> bool
     requires { at + 9 ≤ length s.now }
-    ensures { result ≡ inForm (optional (number 8)) (given lsnForm) (part at 9 s.now) }
+    ensures { result ≡ in_form (optional (number 8)) (given lsn_form) (part at 9 s.now) }
 {
     let flag = load8(s, at);
     if flag == 0 {
@@ -30,7 +30,7 @@ fn watermark_form(s: &[u8], at: usize) -> bool
 // Whether the 17 bytes at a place are a sync point: its remote LSN and its watermark.
 fn point_form(s: &[u8], at: usize) -> bool
     requires { at + 17 ≤ length s.now }
-    ensures { result ≡ inForm syncBytes syncForm (part at 17 s.now) }
+    ensures { result ≡ in_form sync_bytes sync_form (part at 17 s.now) }
 {
     if load64(s, at) == 0 {
         return false;
@@ -41,7 +41,7 @@ fn point_form(s: &[u8], at: usize) -> bool
 // Whether the 18 bytes at a place are a sync point, or none.
 pub fn sync_form(s: &[u8], at: usize) -> bool
     requires { at + 18 ≤ length s.now }
-    ensures { result ≡ inForm (optional syncBytes) (given syncForm) (part at 18 s.now) }
+    ensures { result ≡ in_form (optional sync_bytes) (given sync_form) (part at 18 s.now) }
 {
     let flag = load8(s, at);
     if flag == 0 {
@@ -56,7 +56,7 @@ pub fn sync_form(s: &[u8], at: usize) -> bool
 // The watermark in the 9 bytes at a place.
 fn watermark_read(s: &[u8], at: usize) -> MaybeLsn
     requires { at + 9 ≤ length s.now }
-    ensures { result ≡ markLaid ((optional (number 8)).read (part at 9 s.now)) }
+    ensures { result ≡ mark_laid ((optional (number 8)).read (part at 9 s.now)) }
 {
     if load8(s, at) == 0 {
         return MaybeLsn::Missing;
@@ -67,7 +67,7 @@ fn watermark_read(s: &[u8], at: usize) -> MaybeLsn
 // The sync point in the 18 bytes at a place.
 pub fn sync_read(s: &[u8], at: usize) -> Sync
     requires { at + 18 ≤ length s.now }
-    ensures { result ≡ syncLaid ((optional syncBytes).read (part at 18 s.now)) }
+    ensures { result ≡ sync_laid ((optional sync_bytes).read (part at 18 s.now)) }
 {
     if load8(s, at) == 0 {
         return Sync::Missing;
@@ -80,7 +80,7 @@ pub fn sync_read(s: &[u8], at: usize) -> Sync
 // The watermark over the 9 bytes at a place; zeros where it is missing.
 fn watermark_write(s: &mut [u8], at: usize, watermark: MaybeLsn)
     requires { at + 9 ≤ length s.old }
-    ensures { s.new ≡ put at ((optional (number 8)).spell (maybeLsnSays watermark)) s.old }
+    ensures { s.new ≡ put at ((optional (number 8)).spell (maybe_lsn_says watermark)) s.old }
 {
     let MaybeLsn::At(lsn) = watermark else {
         let none = [0u8; 9];
@@ -94,7 +94,7 @@ fn watermark_write(s: &mut [u8], at: usize, watermark: MaybeLsn)
 // The sync point over the 18 bytes at a place; zeros where it is missing.
 pub fn sync_write(s: &mut [u8], at: usize, sync: Sync)
     requires { at + 18 ≤ length s.old }
-    ensures { s.new ≡ put at ((optional syncBytes).spell (syncSays sync)) s.old }
+    ensures { s.new ≡ put at ((optional sync_bytes).spell (sync_says sync)) s.old }
 {
     let Sync::At(point) = sync else {
         let none = [0u8; 18];

@@ -1,16 +1,16 @@
 // The calls on volumes alone: read, exists, delete, and drop of a pending commit. Each answers on every input, 20 first.
 ghost use Rattle.std.specs.Prelude.{◌≡◌};
-ghost use Rattle.std.specs.Answers.{refused, code};
-ghost use Rattle.pagecalls.specs.Says.{yesSays};
-ghost use Rattle.rules.specs.Reads.{volumeRead, volumeExists, volumeDelete};
-ghost use Rattle.rules.specs.Push.{dropPending};
-ghost use Rattle.layout.specs.Records.{volumeBytes};
-ghost use Rattle.layout.specs.Tables.{volumesIn, volumesOk};
+ghost use Rattle.basics.specs.Answers.{refused, code};
+ghost use Rattle.pagecalls.specs.Says.{yes_says};
+ghost use Rattle.rules.specs.Reads.{volume_read, volume_exists, volume_delete};
+ghost use Rattle.rules.specs.Push.{drop_pending};
+ghost use Rattle.layout.specs.Records.{volume_bytes};
+ghost use Rattle.layout.specs.Tables.{volumes_in, volumes_ok};
 ghost use Rattle.layout.specs.Lent.{lent, after};
-ghost use Rattle.volumecalls.specs.Says.{volumeAnswer};
+ghost use Rattle.volumecalls.specs.Says.{volume_answer};
 
-use core::commit_hash;
-use core::id::VolumeId;
+use basics::commit_hash;
+use basics::id::VolumeId;
 use pagecalls::YesAnswer;
 use table::Spot;
 use volume::volume::{PendingCommit, Sync, Volume};
@@ -25,7 +25,7 @@ pub struct VolumeAnswer {
 
 // A refusal.
 pub fn no_volume(code: u32) -> VolumeAnswer
-    ensures { result ≡ volumeAnswer (refused code) }
+    ensures { result ≡ volume_answer (refused code) }
 {
     let none = [0u8; 16];
     let volume = Volume::new(
@@ -41,7 +41,7 @@ pub fn no_volume(code: u32) -> VolumeAnswer
 
 // The volume of an identifier: 20, 4.
 pub fn volume_read(volumes: &[u8], vid: VolumeId) -> VolumeAnswer
-    ensures { result ≡ volumeAnswer (lent (volumesOk volumes.now) (volumeRead (volumesIn volumes.now) vid)) }
+    ensures { result ≡ volume_answer (lent (volumes_ok volumes.now) (volume_read (volumes_in volumes.now) vid)) }
 {
     if !volumes_formed(volumes) {
         return no_volume(20);
@@ -55,7 +55,7 @@ pub fn volume_read(volumes: &[u8], vid: VolumeId) -> VolumeAnswer
 
 // Whether a volume is stored: 20.
 pub fn volume_exists(volumes: &[u8], vid: VolumeId) -> YesAnswer
-    ensures { yesSays result ≡ lent (volumesOk volumes.now) (volumeExists (volumesIn volumes.now) vid) }
+    ensures { yes_says result ≡ lent (volumes_ok volumes.now) (volume_exists (volumes_in volumes.now) vid) }
 {
     if !volumes_formed(volumes) {
         return YesAnswer::Refused(20);
@@ -68,8 +68,8 @@ pub fn volume_exists(volumes: &[u8], vid: VolumeId) -> YesAnswer
 
 // A volume deleted; where there is none, nothing is: 20.
 pub fn volume_delete(volumes: &mut [u8], vid: VolumeId) -> u32
-    ensures value { result ≡ code (lent (volumesOk volumes.old) (volumeDelete (volumesIn volumes.old) vid)) }
-    ensures volumes_after { volumes.new ≡ after volumeBytes (λ t. t) volumes.old (lent (volumesOk volumes.old) (volumeDelete (volumesIn volumes.old) vid)) }
+    ensures value { result ≡ code (lent (volumes_ok volumes.old) (volume_delete (volumes_in volumes.old) vid)) }
+    ensures volumes_after { volumes.new ≡ after volume_bytes (λ t. t) volumes.old (lent (volumes_ok volumes.old) (volume_delete (volumes_in volumes.old) vid)) }
 {
     if !volumes_formed(volumes) {
         return 20;
@@ -80,8 +80,8 @@ pub fn volume_delete(volumes: &mut [u8], vid: VolumeId) -> u32
 
 // A volume's pending commit dropped; where none is pending, nothing is: 20, 4.
 pub fn drop_pending(volumes: &mut [u8], vid: VolumeId) -> u32
-    ensures value { result ≡ code (lent (volumesOk volumes.old) (dropPending (volumesIn volumes.old) vid)) }
-    ensures volumes_after { volumes.new ≡ after volumeBytes (λ t. t) volumes.old (lent (volumesOk volumes.old) (dropPending (volumesIn volumes.old) vid)) }
+    ensures value { result ≡ code (lent (volumes_ok volumes.old) (drop_pending (volumes_in volumes.old) vid)) }
+    ensures volumes_after { volumes.new ≡ after volume_bytes (λ t. t) volumes.old (lent (volumes_ok volumes.old) (drop_pending (volumes_in volumes.old) vid)) }
 {
     if !volumes_formed(volumes) {
         return 20;

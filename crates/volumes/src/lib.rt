@@ -1,22 +1,22 @@
 // The table of volumes in lent bytes: its form, lookups, and stores, in the words of document 01's tables.
 ghost use Rattle.std.specs.Prelude.{◌≡◌, ◌<◌, true, ◌∷◌};
 ghost use Rattle.std.proofs.Math.Option.{some, map};
-ghost use Rattle.std.specs.Orders.{bytes};
+ghost use Rattle.basics.specs.Orders.{bytes};
 ghost use Rattle.rules.specs.Lists.{is_none};
-ghost use Rattle.rules.specs.Records.{volumeKey};
-ghost use Rattle.rules.specs.Forms.{volumeForm};
-ghost use Rattle.rules.specs.Tables.{store, remove, fits, sameId, getVolume};
+ghost use Rattle.rules.specs.Records.{volume_key};
+ghost use Rattle.rules.specs.Forms.{volume_form};
+ghost use Rattle.rules.specs.Tables.{store, remove, fits, same_id, get_volume};
 ghost use Rattle.table.specs.Records.{spot};
 ghost use Rattle.table.specs.Table.{count_of, recs};
 ghost use Rattle.table.specs.declared.Spot.TheVariants.{At};
-ghost use Rattle.volume.specs.Volumes.{volumeSays};
-ghost use Rattle.volumebytes.specs.Laid.{volumeLaid};
-ghost use Rattle.layout.specs.Records.{volumeBytes};
-ghost use Rattle.layout.specs.Tables.{volumesIn, volumesOk, laidOver};
+ghost use Rattle.volume.specs.Volumes.{volume_says};
+ghost use Rattle.volumebytes.specs.Laid.{volume_laid};
+ghost use Rattle.layout.specs.Records.{volume_bytes};
+ghost use Rattle.layout.specs.Tables.{volumes_in, volumes_ok, laid_over};
 ghost use Rattle.rows.specs.Lookups.{nth};
 ghost use Rattle.volumes.specs.Lookups.{Found};
 
-use core::id::VolumeId;
+use basics::id::VolumeId;
 use layout::{VOLUME, VOLUME_KEY};
 use octets::store_id;
 use table::Spot;
@@ -25,7 +25,7 @@ use volumebytes::{put_out, volume_form, volume_read};
 
 // Whether bytes are a table of volumes: their count, the order of their keys and the form of each (20).
 pub fn volumes_formed(t: &[u8]) -> bool
-    ensures { result ≡ volumesOk t.now }
+    ensures { result ≡ volumes_ok t.now }
 {
     if !table::well_ordered(t, VOLUME, VOLUME_KEY) {
         return false;
@@ -52,7 +52,7 @@ fn volume_key(vid: VolumeId) -> [u8; 17]
 
 // The bytes of a volume.
 fn volume_row(v: Volume) -> [u8; 117]
-    ensures { result ≡ volumeBytes.spell (volumeSays v) }
+    ensures { result ≡ volume_bytes.spell (volume_says v) }
 {
     let mut row = [0u8; 117];
     put_out(&mut row, v);
@@ -61,7 +61,7 @@ fn volume_row(v: Volume) -> [u8; 117]
 
 // Where the volume of an identifier stands.
 pub fn find_volume(t: &[u8], vid: VolumeId) -> Spot
-    requires { volumesOk t.now ≡ true }
+    requires { volumes_ok t.now ≡ true }
     ensures { Found t.now vid result }
 {
     let key = volume_key(vid);
@@ -70,8 +70,8 @@ pub fn find_volume(t: &[u8], vid: VolumeId) -> Spot
 
 // Whether no volume of an identifier is stored.
 pub fn vid_free(t: &[u8], vid: VolumeId) -> bool
-    requires { volumesOk t.now ≡ true }
-    ensures { result ≡ is_none (getVolume (volumesIn t.now) vid) }
+    requires { volumes_ok t.now ≡ true }
+    ensures { result ≡ is_none (get_volume (volumes_in t.now) vid) }
 {
     match find_volume(t, vid) {
         Spot::At(_) => false,
@@ -81,16 +81,16 @@ pub fn vid_free(t: &[u8], vid: VolumeId) -> bool
 
 // The volume at a place.
 pub fn volume_at(t: &[u8], i: usize) -> Volume
-    requires { (volumesOk t.now ≡ true) × (i < count_of t.now) }
-    ensures { map volumeLaid (nth i (volumesIn t.now).rows) ≡ some result }
+    requires { (volumes_ok t.now ≡ true) × (i < count_of t.now) }
+    ensures { map volume_laid (nth i (volumes_in t.now).rows) ≡ some result }
 {
     volume_read(t, 2 + i * VOLUME)
 }
 
 // Whether there is room for a volume: its identifier is stored, or one record more fits.
 pub fn room_for_volume(t: &[u8], v: Volume) -> bool
-    requires { (volumesOk t.now ≡ true) × (volumeForm (volumeSays v) ≡ true) }
-    ensures { result ≡ fits (store volumeKey bytes (volumeSays v) (volumesIn t.now)) }
+    requires { (volumes_ok t.now ≡ true) × (volume_form (volume_says v) ≡ true) }
+    ensures { result ≡ fits (store volume_key bytes (volume_says v) (volumes_in t.now)) }
 {
     let vid = v.vid;
     match find_volume(t, vid) {
@@ -101,9 +101,9 @@ pub fn room_for_volume(t: &[u8], v: Volume) -> bool
 
 // A volume in the place where its identifier was found.
 pub fn store_volume(t: &mut [u8], i: usize, v: Volume)
-    requires t_value { (volumesOk t.old ≡ true) × (volumeForm (volumeSays v) ≡ true) }
+    requires t_value { (volumes_ok t.old ≡ true) × (volume_form (volume_says v) ≡ true) }
     requires t_value_2 { spot 17 (0 ∷ v.vid) (recs 117 t.old) ≡ At i }
-    ensures { t.new ≡ laidOver volumeBytes (store volumeKey bytes (volumeSays v) (volumesIn t.old)) t.old }
+    ensures { t.new ≡ laid_over volume_bytes (store volume_key bytes (volume_says v) (volumes_in t.old)) t.old }
 {
     let row = volume_row(v);
     table::overwrite(t, VOLUME, i, &row);
@@ -111,9 +111,9 @@ pub fn store_volume(t: &mut [u8], i: usize, v: Volume)
 
 // A volume in the place of the one of its identifier, or in its place in the order; there is room for it.
 pub fn put_volume(t: &mut [u8], v: Volume)
-    requires t_value { (volumesOk t.old ≡ true) × (volumeForm (volumeSays v) ≡ true) }
-    requires t_value_2 { fits (store volumeKey bytes (volumeSays v) (volumesIn t.old)) ≡ true }
-    ensures { t.new ≡ laidOver volumeBytes (store volumeKey bytes (volumeSays v) (volumesIn t.old)) t.old }
+    requires t_value { (volumes_ok t.old ≡ true) × (volume_form (volume_says v) ≡ true) }
+    requires t_value_2 { fits (store volume_key bytes (volume_says v) (volumes_in t.old)) ≡ true }
+    ensures { t.new ≡ laid_over volume_bytes (store volume_key bytes (volume_says v) (volumes_in t.old)) t.old }
 {
     let row = volume_row(v);
     table::put(t, VOLUME, VOLUME_KEY, &row);
@@ -121,8 +121,8 @@ pub fn put_volume(t: &mut [u8], v: Volume)
 
 // The volume of an identifier goes; where there is none, nothing does.
 pub fn remove_volume(t: &mut [u8], vid: VolumeId)
-    requires { volumesOk t.old ≡ true }
-    ensures { t.new ≡ laidOver volumeBytes (remove (λ v. sameId vid v.vid) (volumesIn t.old)) t.old }
+    requires { volumes_ok t.old ≡ true }
+    ensures { t.new ≡ laid_over volume_bytes (remove (λ v. same_id vid v.vid) (volumes_in t.old)) t.old }
 {
     let Spot::At(i) = find_volume(t, vid) else {
         return;

@@ -2,25 +2,25 @@
 ghost use Rattle.std.specs.Prelude.{◌≡◌, ◌+◌, ◌/◌, ◌<◌, ◌≤◌, true, length, nat_le};
 ghost use Rattle.octets.specs.Bytes.{put};
 ghost use Rattle.octets.specs.Flat.{flat};
-ghost use Rattle.pageset.specs.Sets.{normalForm};
+ghost use Rattle.pageset.specs.Sets.{normal_form};
 ghost use Rattle.rules.specs.Lists.{is_some};
-ghost use Rattle.rules.specs.Write.{pagesOf};
+ghost use Rattle.rules.specs.Write.{pages_of};
 ghost use Rattle.rules.specs.Walk.{walk as walkRule};
 ghost use Rattle.table.specs.Table.{count_of};
-ghost use Rattle.layout.specs.Tables.{commitsIn, commitsOk};
+ghost use Rattle.layout.specs.Tables.{commits_in, commits_ok};
 ghost use Rattle.layout.specs.Lent.{lent};
-ghost use Rattle.commits.specs.Places.{commitAt};
+ghost use Rattle.commits.specs.Places.{commit_at};
 ghost use Rattle.masks.specs.Masks.{given};
-ghost use Rattle.gifts.specs.Paths.{placesIn, Inside};
-ghost use Rattle.gifts.specs.Steps.{item_at, itemsFrom};
-ghost use Rattle.resultlists.specs.Lists.{slotsIn, listLeft};
-ghost use Rattle.resultlists.specs.Snapshots.{onSnapshot};
-ghost use Rattle.walkcalls.specs.Items.{itemBytes};
+ghost use Rattle.gifts.specs.Paths.{places_in, Inside};
+ghost use Rattle.gifts.specs.Steps.{item_at, items_from};
+ghost use Rattle.resultlists.specs.Lists.{slots_in, list_left};
+ghost use Rattle.resultlists.specs.Snapshots.{on_snapshot};
+ghost use Rattle.walkcalls.specs.Items.{item_bytes};
 
 use arguments::Reply;
 use arguments::snapshots::snapshot_arg;
 use commits::{Place, commits_formed, lsn_at, row};
-use core::page_count::PageCount;
+use basics::page_count::PageCount;
 use gifts::paths::{Path, at_most, path_of};
 use gifts::{next_gift, put_gift};
 use layout::SEGMENT;
@@ -32,9 +32,9 @@ const ITEM: usize = 1003;
 
 // The item of record i, whose segment is there, and its gift, which is given by masks, over the entry at a place of the list.
 fn put_item(list: &mut [u8], at: usize, commits: &[u8], i: usize, left: &[u64])
-    requires commits_value { (commitsOk commits.now ≡ true) × (i < count_of commits.now) × (is_some (commitAt commits.now i).segment ≡ true) }
-    requires left_value { (normalForm (given (pagesOf (commitAt commits.now i).segment) left.now) ≡ true) × (length left.now ≡ 32) × (at + 1003 ≤ length list.old) }
-    ensures { list.new ≡ put at (itemBytes.spell (item_at commits.now i (given (pagesOf (commitAt commits.now i).segment) left.now))) list.old }
+    requires commits_value { (commits_ok commits.now ≡ true) × (i < count_of commits.now) × (is_some (commit_at commits.now i).segment ≡ true) }
+    requires left_value { (normal_form (given (pages_of (commit_at commits.now i).segment) left.now) ≡ true) × (length left.now ≡ 32) × (at + 1003 ≤ length list.old) }
+    ensures { list.new ≡ put at (item_bytes.spell (item_at commits.now i (given (pages_of (commit_at commits.now i).segment) left.now))) list.old }
 {
     let from = row(commits, i);
     copy(list, at, commits, from + 1, 16);
@@ -45,8 +45,8 @@ fn put_item(list: &mut [u8], at: usize, commits: &[u8], i: usize, left: &[u64])
 
 // How many items the walk of a path has.
 fn count_items(commits: &[u8], path: Path, count: PageCount) -> usize
-    requires { (commitsOk commits.now ≡ true) × Inside commits.now (placesIn path.runs) }
-    ensures { result ≡ length (itemsFrom commits.now count.0 (placesIn path.runs) 0) }
+    requires { (commits_ok commits.now ≡ true) × Inside commits.now (places_in path.runs) }
+    ensures { result ≡ length (items_from commits.now count.0 (places_in path.runs) 0) }
 {
     let mut tags = [0u32; 64];
     let mut masks = [0u64; 64];
@@ -69,8 +69,8 @@ fn count_items(commits: &[u8], path: Path, count: PageCount) -> usize
 
 // Whether so many places are enough for the items of a path. Each commit has at most one, so they are not counted where there is a place for every commit.
 fn has_room(commits: &[u8], path: Path, count: PageCount, slots: usize) -> bool
-    requires { (commitsOk commits.now ≡ true) × Inside commits.now (placesIn path.runs) }
-    ensures { result ≡ nat_le (length (itemsFrom commits.now count.0 (placesIn path.runs) 0)) slots }
+    requires { (commits_ok commits.now ≡ true) × Inside commits.now (places_in path.runs) }
+    ensures { result ≡ nat_le (length (items_from commits.now count.0 (places_in path.runs) 0)) slots }
 {
     if at_most(path, slots) {
         return true;
@@ -80,10 +80,10 @@ fn has_room(commits: &[u8], path: Path, count: PageCount, slots: usize) -> bool
 
 // The items of a path, one after another from the start of the list on, and their number.
 fn put_items(commits: &[u8], path: Path, count: PageCount, list: &mut [u8]) -> usize
-    requires commits_value { (commitsOk commits.now ≡ true) × Inside commits.now (placesIn path.runs) }
-    requires runs_in_bounds { length (itemsFrom commits.now count.0 (placesIn path.runs) 0) ≤ length list.old / 1003 }
-    ensures value { (result ≡ length (itemsFrom commits.now count.0 (placesIn path.runs) 0)) × (result ≤ 524280) }
-    ensures list_after { list.new ≡ put 0 (flat itemBytes.spell (itemsFrom commits.now count.0 (placesIn path.runs) 0)) list.old }
+    requires commits_value { (commits_ok commits.now ≡ true) × Inside commits.now (places_in path.runs) }
+    requires runs_in_bounds { length (items_from commits.now count.0 (places_in path.runs) 0) ≤ length list.old / 1003 }
+    ensures value { (result ≡ length (items_from commits.now count.0 (places_in path.runs) 0)) × (result ≤ 524280) }
+    ensures list_after { list.new ≡ put 0 (flat item_bytes.spell (items_from commits.now count.0 (places_in path.runs) 0)) list.old }
 {
     let mut tags = [0u32; 64];
     let mut masks = [0u64; 64];
@@ -107,7 +107,7 @@ fn put_items(commits: &[u8], path: Path, count: PageCount, list: &mut [u8]) -> u
 
 // The walk of a snapshot: ranges in path order, LSN falling, each commit with the pages that no earlier one took: 20, 1, 2, 3, 19.
 pub fn walk(commits: &[u8], snapshot: &[u8], list: &mut [u8], items: &mut u32) -> Reply
-    ensures { (result, (list.new, items.new)) ≡ listLeft itemBytes list.old items.old (lent (commitsOk commits.now) (onSnapshot snapshot.now (walkRule (commitsIn commits.now) (slotsIn itemBytes list.old)))) }
+    ensures { (result, (list.new, items.new)) ≡ list_left item_bytes list.old items.old (lent (commits_ok commits.now) (on_snapshot snapshot.now (walkRule (commits_in commits.now) (slots_in item_bytes list.old)))) }
 {
     if !commits_formed(commits) {
         return Reply { code: 20, found: 0 };

@@ -1,119 +1,119 @@
 -- A commit written is three stores, one in each table: room for it is room for the three, asked one after another, and each table's bytes are its own store's.
 use Rattle.std.proofs.Common.{◌≡◌, ℕ, ◌+◌, Bool, true, false, ◌&&◌, eqb, List, map, sym, refl, ap, ◌∙◌, ap₂}
-use Rattle.std.specs.Answers.{done, ask, ◌>>◌}
-use Rattle.std.specs.Orders.{logLsn, logPageLsn}
-use Rattle.rules.specs.Records.{commitKey, checkpointKey, entryKey}
-use Rattle.rules.specs.Forms.{commitForm}
-use Rattle.rules.specs.Tables.{fits, store, storeAll}
-use Rattle.rules.specs.Write.{Logs, checkpointsOf, entriesOf, write, logsFit}
-use Rattle.rules.proofs.TableLaws.{and-fst, and-snd}
+use Rattle.basics.specs.Answers.{done, ask, ◌>>◌}
+use Rattle.basics.specs.Orders.{log_lsn, log_page_lsn}
+use Rattle.rules.specs.Records.{commit_key, checkpoint_key, entry_key}
+use Rattle.rules.specs.Forms.{commit_form}
+use Rattle.rules.specs.Tables.{fits, store, store_all}
+use Rattle.rules.specs.Write.{Logs, checkpoints_of, entries_of, write, logs_fit}
+use Rattle.rules.proofs.TableLaws.{and_fst, and_snd}
 use Rattle.table.specs.Records as T
 use Rattle.table.specs.Table.{count_of, recs, laid, holds}
 use Rattle.table.specs.Table as B
-use Rattle.layout.specs.Records.{commitBytes, checkpointBytes, entryBytes}
-use Rattle.layout.specs.Tables.{commitsIn, commitsOk, checkpointsIn, indexIn, indexOk, laidOver}
-use Rattle.layout.proofs.HoldLaws.{in-form}
-use Rattle.rows.proofs.Stores.{put-fits, put-laid}
+use Rattle.layout.specs.Records.{commit_bytes, checkpoint_bytes, entry_bytes}
+use Rattle.layout.specs.Tables.{commits_in, commits_ok, checkpoints_in, index_in, index_ok, laid_over}
+use Rattle.layout.proofs.HoldLaws.{in_form_lem}
+use Rattle.rows.proofs.Stores.{put_fits, put_laid}
 use Rattle.rows.proofs.Tables.{commits, index}
 use Rattle.writecalls.specs.declared.Plan.{Plan}
-use Rattle.writecalls.specs.Written.{IsCommit, commitIn, logsIn, freshIn, roomed, planned}
-use Rattle.rules.proofs.Write.{entries-form}
-use Rattle.rows.proofs.News.{rows-room}
-use Rattle.writecalls.proofs.Rows.{is-form}
+use Rattle.writecalls.specs.Written.{IsCommit, commit_in, logs_in, fresh_in, roomed, planned}
+use Rattle.rules.proofs.Write.{entries_form}
+use Rattle.rows.proofs.News.{rows_room}
+use Rattle.writecalls.proofs.Rows.{is_form}
 
 -- ---- the commit itself: its bytes are its record
 
-module _ (t b : List ℕ) (good : commitsOk t ≡ true) (ok : IsCommit b) where
-  spelled : b ≡ commitBytes.spell (commitIn b)
-  spelled = sym (in-form commitBytes commitForm b ok.1).0
+module _ (t b : List ℕ) (good : commits_ok t ≡ true) (ok : IsCommit b) where
+  spelled : b ≡ commit_bytes.spell (commit_in b)
+  spelled = sym (in_form_lem commit_bytes commit_form b ok.1).0
 
-  pub commit-fits : B.fits 722 (T.put 25 b (recs 722 t)) t ≡ fits (store commitKey logLsn (commitIn b) (commitsIn t))
-  commit-fits = ap (λ (x : List ℕ). B.fits 722 (T.put 25 x (recs 722 t)) t) spelled ∙ put-fits commits t good (commitIn b) (is-form b ok)
+  pub commit_fits : B.fits 722 (T.put 25 b (recs 722 t)) t ≡ fits (store commit_key log_lsn (commit_in b) (commits_in t))
+  commit_fits = ap (λ (x : List ℕ). B.fits 722 (T.put 25 x (recs 722 t)) t) spelled ∙ put_fits commits t good (commit_in b) (is_form b ok)
 
-  pub commit-laid : laid (T.put 25 b (recs 722 t)) t ≡ laidOver commitBytes (store commitKey logLsn (commitIn b) (commitsIn t)) t
-  commit-laid = ap (λ (x : List ℕ). laid (T.put 25 x (recs 722 t)) t) spelled ∙ put-laid commits t good (commitIn b) (is-form b ok)
+  pub commit_laid_lem : laid (T.put 25 b (recs 722 t)) t ≡ laid_over commit_bytes (store commit_key log_lsn (commit_in b) (commits_in t)) t
+  commit_laid_lem = ap (λ (x : List ℕ). laid (T.put 25 x (recs 722 t)) t) spelled ∙ put_laid commits t good (commit_in b) (is_form b ok)
 
 -- ---- its index entries: room for the new ones is room for the store
 
-pub fresh-room : (t b : List ℕ) → indexOk t ≡ true → IsCommit b → (r : Bool) (n : ℕ) → n ≡ freshIn t (commitIn b) → r ≡ holds 29 (count_of t + n) t
-    → r ≡ fits (storeAll entryKey logPageLsn (entriesOf (commitIn b)) (indexIn t))
-fresh-room t b good ok r n en e = rows-room index t good (entriesOf (commitIn b)) (entries-form (commitIn b) (is-form b ok)) (map entryBytes.spell (entriesOf (commitIn b))) refl r n en e
+pub fresh_room : (t b : List ℕ) → index_ok t ≡ true → IsCommit b → (r : Bool) (n : ℕ) → n ≡ fresh_in t (commit_in b) → r ≡ holds 29 (count_of t + n) t
+    → r ≡ fits (store_all entry_key log_page_lsn (entries_of (commit_in b)) (index_in t))
+fresh_room t b good ok r n en e = rows_room index t good (entries_of (commit_in b)) (entries_form (commit_in b) (is_form b ok)) (map entry_bytes.spell (entries_of (commit_in b))) refl r n en e
 
 -- ---- the three tables
 
 module _ (cs ks es b : List ℕ) where
-  abbrev fitsCommit : Bool
-  fitsCommit = fits (store commitKey logLsn (commitIn b) (commitsIn cs))
+  abbrev fits_commit : Bool
+  fits_commit = fits (store commit_key log_lsn (commit_in b) (commits_in cs))
 
-  abbrev fitCheckpoints : Bool
-  fitCheckpoints = fits (storeAll checkpointKey logLsn (checkpointsOf (commitIn b)) (checkpointsIn ks))
+  abbrev fit_checkpoints : Bool
+  fit_checkpoints = fits (store_all checkpoint_key log_lsn (checkpoints_of (commit_in b)) (checkpoints_in ks))
 
-  abbrev fitEntries : Bool
-  fitEntries = fits (storeAll entryKey logPageLsn (entriesOf (commitIn b)) (indexIn es))
+  abbrev fit_entries : Bool
+  fit_entries = fits (store_all entry_key log_page_lsn (entries_of (commit_in b)) (index_in es))
 
   abbrev fit : Bool
-  fit = logsFit (write (logsIn cs ks es) (commitIn b))
+  fit = logs_fit (write (logs_in cs ks es) (commit_in b))
 
-  fit_is : fit ≡ (fitsCommit && fitCheckpoints && fitEntries)
-  unfolding logsFit write
+  fit_is : fit ≡ (fits_commit && fit_checkpoints && fit_entries)
+  unfolding logs_fit write
   fit_is = refl
 
   -- no room for the commit
-  pub no-commit : fitsCommit ≡ false → false ≡ fit
-  no-commit e = sym (fit_is ∙ ap (λ (x : Bool). x && fitCheckpoints && fitEntries) e)
+  pub no_commit : fits_commit ≡ false → false ≡ fit
+  no_commit e = sym (fit_is ∙ ap (λ (x : Bool). x && fit_checkpoints && fit_entries) e)
 
-  module _ (one : fitsCommit ≡ true) where
+  module _ (one : fits_commit ≡ true) where
     -- none for its checkpoints
-    pub no-checkpoints : fitCheckpoints ≡ false → false ≡ fit
-    no-checkpoints e = sym (fit_is ∙ ap₂ (λ (x y : Bool). x && y && fitEntries) one e)
+    pub no_checkpoints : fit_checkpoints ≡ false → false ≡ fit
+    no_checkpoints e = sym (fit_is ∙ ap₂ (λ (x y : Bool). x && y && fit_entries) one e)
 
     -- else its entries decide
-    pub entries-decide : fitCheckpoints ≡ true → fitEntries ≡ fit
-    entries-decide e = sym (fit_is ∙ ap₂ (λ (x y : Bool). x && y && fitEntries) one e)
+    pub entries_decide : fit_checkpoints ≡ true → fit_entries ≡ fit
+    entries_decide e = sym (fit_is ∙ ap₂ (λ (x y : Bool). x && y && fit_entries) one e)
 
   -- the plan by room
   abbrev made : Logs
-  made = write (logsIn cs ks es) (commitIn b)
+  made = write (logs_in cs ks es) (commit_in b)
 
-  plan-by : Bool → ℕ → Plan
-  plan-by x k = planned (ask x 19 >> done made) k
+  plan_by : Bool → ℕ → Plan
+  plan_by x k = planned (ask x 19 >> done made) k
 
-  pub plan-full : fit ≡ false → (k : ℕ) → ◌≡◌ {A = Plan} (record { number = 19; fresh = 0 }) (planned (roomed made) k)
-  unfolding plan-by
-  plan-full e k = ap (λ (x : Bool). plan-by x k) (sym e)
+  pub plan_full : fit ≡ false → (k : ℕ) → ◌≡◌ {A = Plan} (record { number = 19; fresh = 0 }) (planned (roomed made) k)
+  unfolding plan_by
+  plan_full e k = ap (λ (x : Bool). plan_by x k) (sym e)
 
-  pub plan-room : fit ≡ true → (k n : ℕ) → n ≡ k → ◌≡◌ {A = Plan} (record { number = 0; fresh = n }) (planned (roomed made) k)
-  unfolding plan-by
-  plan-room e k n h = ap (plan-by true) h ∙ ap (λ (x : Bool). plan-by x k) (sym e)
+  pub plan_room : fit ≡ true → (k n : ℕ) → n ≡ k → ◌≡◌ {A = Plan} (record { number = 0; fresh = n }) (planned (roomed made) k)
+  unfolding plan_by
+  plan_room e k n h = ap (plan_by true) h ∙ ap (λ (x : Bool). plan_by x k) (sym e)
 
-  pub room-is : (k : ℕ) → eqb (planned (roomed made) k).number 0 ≡ fit
-  unfolding plan-by
-  room-is k = go fit
+  pub room_is : (k : ℕ) → eqb (planned (roomed made) k).number 0 ≡ fit
+  unfolding plan_by
+  room_is k = go fit
     where
-      go : (x : Bool) → eqb (plan-by x k).number 0 ≡ x
+      go : (x : Bool) → eqb (plan_by x k).number 0 ≡ x
       go true = refl
       go false = refl
 
   -- where there is room for all, there is for each
   module _ (all : fit ≡ true) where
-    two : (fitsCommit && fitCheckpoints) ≡ true
-    two = and-fst (fitsCommit && fitCheckpoints) fitEntries (sym fit_is ∙ all)
+    two : (fits_commit && fit_checkpoints) ≡ true
+    two = and_fst (fits_commit && fit_checkpoints) fit_entries (sym fit_is ∙ all)
 
-    pub commit-room : fitsCommit ≡ true
-    commit-room = and-fst fitsCommit fitCheckpoints two
+    pub commit_room : fits_commit ≡ true
+    commit_room = and_fst fits_commit fit_checkpoints two
 
-    pub checkpoints-room : fitCheckpoints ≡ true
-    checkpoints-room = and-snd fitsCommit fitCheckpoints two
+    pub checkpoints_room : fit_checkpoints ≡ true
+    checkpoints_room = and_snd fits_commit fit_checkpoints two
 
-    pub entries-room : fitEntries ≡ true
-    entries-room = and-snd (fitsCommit && fitCheckpoints) fitEntries (sym fit_is ∙ all)
+    pub entries_room : fit_entries ≡ true
+    entries_room = and_snd (fits_commit && fit_checkpoints) fit_entries (sym fit_is ∙ all)
 
   -- the tables of a write are the three stores
-  pub written : (u v w : List ℕ) → u ≡ laidOver commitBytes (store commitKey logLsn (commitIn b) (commitsIn cs)) cs
-      → v ≡ laidOver checkpointBytes (storeAll checkpointKey logLsn (checkpointsOf (commitIn b)) (checkpointsIn ks)) ks
-      → w ≡ laidOver entryBytes (storeAll entryKey logPageLsn (entriesOf (commitIn b)) (indexIn es)) es
-      → (u ≡ laidOver commitBytes (write (logsIn cs ks es) (commitIn b)).commits cs)
-      × ((v ≡ laidOver checkpointBytes (write (logsIn cs ks es) (commitIn b)).checkpoints ks)
-      × (w ≡ laidOver entryBytes (write (logsIn cs ks es) (commitIn b)).index es))
+  pub written : (u v w : List ℕ) → u ≡ laid_over commit_bytes (store commit_key log_lsn (commit_in b) (commits_in cs)) cs
+      → v ≡ laid_over checkpoint_bytes (store_all checkpoint_key log_lsn (checkpoints_of (commit_in b)) (checkpoints_in ks)) ks
+      → w ≡ laid_over entry_bytes (store_all entry_key log_page_lsn (entries_of (commit_in b)) (index_in es)) es
+      → (u ≡ laid_over commit_bytes (write (logs_in cs ks es) (commit_in b)).commits cs)
+      × ((v ≡ laid_over checkpoint_bytes (write (logs_in cs ks es) (commit_in b)).checkpoints ks)
+      × (w ≡ laid_over entry_bytes (write (logs_in cs ks es) (commit_in b)).index es))
   unfolding write
   written u v w p q r = (p, (q, r))

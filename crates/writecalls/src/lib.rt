@@ -1,16 +1,16 @@
 // Writing a commit, given as its 722 bytes, to its three tables: `write_plan` decides and stores nothing, `write_fresh` stores what was planned, `write_commit` is the call.
 // Other calls that write a commit ask `write_room` and then `write_stored`.
 ghost use Rattle.std.specs.Prelude.{◌≡◌, true};
-ghost use Rattle.std.specs.Answers.{code};
-ghost use Rattle.std.specs.Orders.{logLsn, logPageLsn};
-ghost use Rattle.layout.specs.Records.{checkpointBytes, entryBytes, commitBytes};
-ghost use Rattle.layout.specs.Tables.{commitsIn, commitsOk, checkpointsIn, checkpointsOk, indexIn, indexOk, laidOver};
+ghost use Rattle.basics.specs.Answers.{code};
+ghost use Rattle.basics.specs.Orders.{log_lsn, log_page_lsn};
+ghost use Rattle.layout.specs.Records.{checkpoint_bytes, entry_bytes, commit_bytes};
+ghost use Rattle.layout.specs.Tables.{commits_in, commits_ok, checkpoints_in, checkpoints_ok, index_in, index_ok, laid_over};
 ghost use Rattle.layout.specs.Lent.{lent, after};
-ghost use Rattle.rules.specs.Records.{commitKey, checkpointKey, entryKey};
-ghost use Rattle.rules.specs.Tables.{fits, store, storeAll};
-ghost use Rattle.rules.specs.Write.{pagesOf, checkpointsOf, entriesOf, Logs, write, logsFit};
-ghost use Rattle.setbytes.specs.Laid.{setLaid};
-ghost use Rattle.writecalls.specs.Written.{IsCommit, commitIn, logsIn, logsOk, freshIn, roomed, planned, writeIn};
+ghost use Rattle.rules.specs.Records.{commit_key, checkpoint_key, entry_key};
+ghost use Rattle.rules.specs.Tables.{fits, store, store_all};
+ghost use Rattle.rules.specs.Write.{pages_of, checkpoints_of, entries_of, Logs, write, logs_fit};
+ghost use Rattle.setbytes.specs.Laid.{set_laid};
+ghost use Rattle.writecalls.specs.Written.{IsCommit, commit_in, logs_in, logs_ok, fresh_in, roomed, planned, write_in};
 
 use commitbytes::{commit_form, commit_lsns_ok, fields, lsns};
 use commits::commits_formed;
@@ -36,7 +36,7 @@ const CHECKPOINTS: usize = 657;
 
 // Whether the three lent tables are formed (20).
 pub fn logs_formed(commits: &[u8], checkpoints: &[u8], index: &[u8]) -> bool
-    ensures { result ≡ logsOk commits.now checkpoints.now index.now }
+    ensures { result ≡ logs_ok commits.now checkpoints.now index.now }
 {
     if !commits_formed(commits) {
         return false;
@@ -50,7 +50,7 @@ pub fn logs_formed(commits: &[u8], checkpoints: &[u8], index: &[u8]) -> bool
 // The pages of a commit, read where its segment's set stands: none where the segment is missing.
 pub fn commit_pages(c: &[u8]) -> PageSet
     requires { IsCommit c.now }
-    ensures { result ≡ setLaid (pagesOf (commitIn c.now).segment) }
+    ensures { result ≡ set_laid (pages_of (commit_in c.now).segment) }
 {
     if load8(c, SEGMENT) == 0 {
         return sets::empty();
@@ -60,16 +60,16 @@ pub fn commit_pages(c: &[u8]) -> PageSet
 
 // Whether the commits have room for a commit: it replaces one, or one more fits.
 fn room_for_commit(t: &[u8], c: &[u8]) -> bool
-    requires { (commitsOk t.now ≡ true) × IsCommit c.now }
-    ensures { result ≡ fits (store commitKey logLsn (commitIn c.now) (commitsIn t.now)) }
+    requires { (commits_ok t.now ≡ true) × IsCommit c.now }
+    ensures { result ≡ fits (store commit_key log_lsn (commit_in c.now) (commits_in t.now)) }
 {
     table::room(t, COMMIT, COMMIT_KEY, c)
 }
 
 // Whether the checkpoints have room for those of a commit.
 pub fn room_for_checkpoints(t: &[u8], c: &[u8]) -> bool
-    requires { (checkpointsOk t.now ≡ true) × IsCommit c.now }
-    ensures { result ≡ fits (storeAll checkpointKey logLsn (checkpointsOf (commitIn c.now)) (checkpointsIn t.now)) }
+    requires { (checkpoints_ok t.now ≡ true) × IsCommit c.now }
+    ensures { result ≡ fits (store_all checkpoint_key log_lsn (checkpoints_of (commit_in c.now)) (checkpoints_in t.now)) }
 {
     let log = fields::commit_log(c, 0);
     let n = lsns::lsns_number(c, CHECKPOINTS);
@@ -80,8 +80,8 @@ pub fn room_for_checkpoints(t: &[u8], c: &[u8]) -> bool
 
 // How many of a commit's entries have a key that the index lacks.
 pub fn fresh_entries(t: &[u8], c: &[u8]) -> usize
-    requires { (indexOk t.now ≡ true) × IsCommit c.now }
-    ensures { result ≡ freshIn t.now (commitIn c.now) }
+    requires { (index_ok t.now ≡ true) × IsCommit c.now }
+    ensures { result ≡ fresh_in t.now (commit_in c.now) }
 {
     let log = fields::commit_log(c, 0);
     let lsn = fields::commit_lsn(c, 0);
@@ -91,9 +91,9 @@ pub fn fresh_entries(t: &[u8], c: &[u8]) -> usize
 
 // The checkpoints of a commit put in; there is room for them.
 pub fn put_checkpoints(t: &mut [u8], c: &[u8])
-    requires t_value { (checkpointsOk t.old ≡ true) × IsCommit c.now }
-    requires t_value_2 { fits (storeAll checkpointKey logLsn (checkpointsOf (commitIn c.now)) (checkpointsIn t.old)) ≡ true }
-    ensures { t.new ≡ laidOver checkpointBytes (storeAll checkpointKey logLsn (checkpointsOf (commitIn c.now)) (checkpointsIn t.old)) t.old }
+    requires t_value { (checkpoints_ok t.old ≡ true) × IsCommit c.now }
+    requires t_value_2 { fits (store_all checkpoint_key log_lsn (checkpoints_of (commit_in c.now)) (checkpoints_in t.old)) ≡ true }
+    ensures { t.new ≡ laid_over checkpoint_bytes (store_all checkpoint_key log_lsn (checkpoints_of (commit_in c.now)) (checkpoints_in t.old)) t.old }
 {
     let log = fields::commit_log(c, 0);
     let n = lsns::lsns_number(c, CHECKPOINTS);
@@ -103,10 +103,10 @@ pub fn put_checkpoints(t: &mut [u8], c: &[u8])
 
 // The entries of a commit put in, `fresh` of them new; there is room for them.
 pub fn put_entries(t: &mut [u8], c: &[u8], fresh: usize)
-    requires t_value { (indexOk t.old ≡ true) × IsCommit c.now }
-    requires t_value_2 { fits (storeAll entryKey logPageLsn (entriesOf (commitIn c.now)) (indexIn t.old)) ≡ true }
-    requires fresh_value { fresh ≡ freshIn t.old (commitIn c.now) }
-    ensures { t.new ≡ laidOver entryBytes (storeAll entryKey logPageLsn (entriesOf (commitIn c.now)) (indexIn t.old)) t.old }
+    requires t_value { (index_ok t.old ≡ true) × IsCommit c.now }
+    requires t_value_2 { fits (store_all entry_key log_page_lsn (entries_of (commit_in c.now)) (index_in t.old)) ≡ true }
+    requires fresh_value { fresh ≡ fresh_in t.old (commit_in c.now) }
+    ensures { t.new ≡ laid_over entry_bytes (store_all entry_key log_page_lsn (entries_of (commit_in c.now)) (index_in t.old)) t.old }
 {
     let log = fields::commit_log(c, 0);
     let lsn = fields::commit_lsn(c, 0);
@@ -123,9 +123,9 @@ fn refused_plan(number: u32) -> Plan
 
 // The plan by room alone, for all that a commit adds to the three tables: 19, or 0 and the number of new index entries.
 fn room_plan(commits: &[u8], checkpoints: &[u8], index: &[u8], c: &[u8]) -> Plan
-    requires commits_value { (commitsOk commits.now ≡ true) × (checkpointsOk checkpoints.now ≡ true) × (indexOk index.now ≡ true) }
+    requires commits_value { (commits_ok commits.now ≡ true) × (checkpoints_ok checkpoints.now ≡ true) × (index_ok index.now ≡ true) }
     requires commit { IsCommit c.now }
-    ensures { result ≡ planned (roomed (write (logsIn commits.now checkpoints.now index.now) (commitIn c.now))) (freshIn index.now (commitIn c.now)) }
+    ensures { result ≡ planned (roomed (write (logs_in commits.now checkpoints.now index.now) (commit_in c.now))) (fresh_in index.now (commit_in c.now)) }
 {
     if !room_for_commit(commits, c) {
         return refused_plan(19);
@@ -142,9 +142,9 @@ fn room_plan(commits: &[u8], checkpoints: &[u8], index: &[u8], c: &[u8]) -> Plan
 
 // Whether the three tables have room for all that a commit adds.
 pub fn write_room(commits: &[u8], checkpoints: &[u8], index: &[u8], c: &[u8]) -> bool
-    requires commits_value { (commitsOk commits.now ≡ true) × (checkpointsOk checkpoints.now ≡ true) × (indexOk index.now ≡ true) }
+    requires commits_value { (commits_ok commits.now ≡ true) × (checkpoints_ok checkpoints.now ≡ true) × (index_ok index.now ≡ true) }
     requires commit { IsCommit c.now }
-    ensures { result ≡ logsFit (write (logsIn commits.now checkpoints.now index.now) (commitIn c.now)) }
+    ensures { result ≡ logs_fit (write (logs_in commits.now checkpoints.now index.now) (commit_in c.now)) }
 {
     room_plan(commits, checkpoints, index, c).number == 0
 }
@@ -157,13 +157,13 @@ pub fn write_fresh(
     c: &[u8],
     fresh: usize,
 )
-    requires commits_value { (commitsOk commits.old ≡ true) × (checkpointsOk checkpoints.old ≡ true) × (indexOk index.old ≡ true) }
+    requires commits_value { (commits_ok commits.old ≡ true) × (checkpoints_ok checkpoints.old ≡ true) × (index_ok index.old ≡ true) }
     requires commit { IsCommit c.now }
-    requires c_value { logsFit (write (logsIn commits.old checkpoints.old index.old) (commitIn c.now)) ≡ true }
-    requires fresh_value { fresh ≡ freshIn index.old (commitIn c.now) }
-    ensures commits_after { commits.new ≡ laidOver commitBytes (write (logsIn commits.old checkpoints.old index.old) (commitIn c.now)).commits commits.old }
-    ensures checkpoints_after { checkpoints.new ≡ laidOver checkpointBytes (write (logsIn commits.old checkpoints.old index.old) (commitIn c.now)).checkpoints checkpoints.old }
-    ensures index_after { index.new ≡ laidOver entryBytes (write (logsIn commits.old checkpoints.old index.old) (commitIn c.now)).index index.old }
+    requires c_value { logs_fit (write (logs_in commits.old checkpoints.old index.old) (commit_in c.now)) ≡ true }
+    requires fresh_value { fresh ≡ fresh_in index.old (commit_in c.now) }
+    ensures commits_after { commits.new ≡ laid_over commit_bytes (write (logs_in commits.old checkpoints.old index.old) (commit_in c.now)).commits commits.old }
+    ensures checkpoints_after { checkpoints.new ≡ laid_over checkpoint_bytes (write (logs_in commits.old checkpoints.old index.old) (commit_in c.now)).checkpoints checkpoints.old }
+    ensures index_after { index.new ≡ laid_over entry_bytes (write (logs_in commits.old checkpoints.old index.old) (commit_in c.now)).index index.old }
 {
     table::put(commits, COMMIT, COMMIT_KEY, c);
     put_checkpoints(checkpoints, c);
@@ -172,12 +172,12 @@ pub fn write_fresh(
 
 // A commit written to the three tables, which have room for all that it adds.
 pub fn write_stored(commits: &mut [u8], checkpoints: &mut [u8], index: &mut [u8], c: &[u8])
-    requires commits_value { (commitsOk commits.old ≡ true) × (checkpointsOk checkpoints.old ≡ true) × (indexOk index.old ≡ true) }
+    requires commits_value { (commits_ok commits.old ≡ true) × (checkpoints_ok checkpoints.old ≡ true) × (index_ok index.old ≡ true) }
     requires commit { IsCommit c.now }
-    requires c_value { logsFit (write (logsIn commits.old checkpoints.old index.old) (commitIn c.now)) ≡ true }
-    ensures commits_after { commits.new ≡ laidOver commitBytes (write (logsIn commits.old checkpoints.old index.old) (commitIn c.now)).commits commits.old }
-    ensures checkpoints_after { checkpoints.new ≡ laidOver checkpointBytes (write (logsIn commits.old checkpoints.old index.old) (commitIn c.now)).checkpoints checkpoints.old }
-    ensures index_after { index.new ≡ laidOver entryBytes (write (logsIn commits.old checkpoints.old index.old) (commitIn c.now)).index index.old }
+    requires c_value { logs_fit (write (logs_in commits.old checkpoints.old index.old) (commit_in c.now)) ≡ true }
+    ensures commits_after { commits.new ≡ laid_over commit_bytes (write (logs_in commits.old checkpoints.old index.old) (commit_in c.now)).commits commits.old }
+    ensures checkpoints_after { checkpoints.new ≡ laid_over checkpoint_bytes (write (logs_in commits.old checkpoints.old index.old) (commit_in c.now)).checkpoints checkpoints.old }
+    ensures index_after { index.new ≡ laid_over entry_bytes (write (logs_in commits.old checkpoints.old index.old) (commit_in c.now)).index index.old }
 {
     let fresh = fresh_entries(index, c);
     write_fresh(commits, checkpoints, index, c, fresh);
@@ -185,7 +185,7 @@ pub fn write_stored(commits: &mut [u8], checkpoints: &mut [u8], index: &mut [u8]
 
 // The plan of a write, with nothing stored: 20, 3 for another number of bytes, 1, 3, 19, or 0 and the number of new index entries.
 pub fn write_plan(commits: &[u8], checkpoints: &[u8], index: &[u8], c: &[u8]) -> Plan
-    ensures { result ≡ planned (lent (logsOk commits.now checkpoints.now index.now) (writeIn (logsIn commits.now checkpoints.now index.now) c.now)) (freshIn index.now (commitIn c.now)) }
+    ensures { result ≡ planned (lent (logs_ok commits.now checkpoints.now index.now) (write_in (logs_in commits.now checkpoints.now index.now) c.now)) (fresh_in index.now (commit_in c.now)) }
 {
     if !logs_formed(commits, checkpoints, index) {
         return refused_plan(20);
@@ -204,10 +204,10 @@ pub fn write_plan(commits: &[u8], checkpoints: &[u8], index: &[u8], c: &[u8]) ->
 
 // A commit written, all or nothing: it replaces any at its log and LSN, and adds its checkpoints and an index entry for each of its pages: 20, 3 for another number of bytes, 1, 3, 19.
 pub fn write_commit(commits: &mut [u8], checkpoints: &mut [u8], index: &mut [u8], c: &[u8]) -> u32
-    ensures value { result ≡ code (lent (logsOk commits.old checkpoints.old index.old) (writeIn (logsIn commits.old checkpoints.old index.old) c.now)) }
-    ensures commits_after { commits.new ≡ after commitBytes (λ (g : Logs). g.commits) commits.old (lent (logsOk commits.old checkpoints.old index.old) (writeIn (logsIn commits.old checkpoints.old index.old) c.now)) }
-    ensures checkpoints_after { checkpoints.new ≡ after checkpointBytes (λ (g : Logs). g.checkpoints) checkpoints.old (lent (logsOk commits.old checkpoints.old index.old) (writeIn (logsIn commits.old checkpoints.old index.old) c.now)) }
-    ensures index_after { index.new ≡ after entryBytes (λ (g : Logs). g.index) index.old (lent (logsOk commits.old checkpoints.old index.old) (writeIn (logsIn commits.old checkpoints.old index.old) c.now)) }
+    ensures value { result ≡ code (lent (logs_ok commits.old checkpoints.old index.old) (write_in (logs_in commits.old checkpoints.old index.old) c.now)) }
+    ensures commits_after { commits.new ≡ after commit_bytes (λ (g : Logs). g.commits) commits.old (lent (logs_ok commits.old checkpoints.old index.old) (write_in (logs_in commits.old checkpoints.old index.old) c.now)) }
+    ensures checkpoints_after { checkpoints.new ≡ after checkpoint_bytes (λ (g : Logs). g.checkpoints) checkpoints.old (lent (logs_ok commits.old checkpoints.old index.old) (write_in (logs_in commits.old checkpoints.old index.old) c.now)) }
+    ensures index_after { index.new ≡ after entry_bytes (λ (g : Logs). g.index) index.old (lent (logs_ok commits.old checkpoints.old index.old) (write_in (logs_in commits.old checkpoints.old index.old) c.now)) }
 {
     let plan = write_plan(commits, checkpoints, index, c);
     let number = plan.number;

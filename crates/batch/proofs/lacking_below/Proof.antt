@@ -2,31 +2,31 @@
 use borrow.Author.Rules.{rules}
 use native.Mathlib.Omega.{arith}
 use Rattle.table.specs.Table.{runs}
-use Rattle.batch.proofs.Turns.{lacks-at, lacks-gap}
+use Rattle.batch.proofs.Turns.{lacks_at, lacks_gap}
 use Rattle.batch.proofs.lacking_below.Statement.{statement}
 use Rattle.batch.proofs.lacking_below.Tie as tie
 
-find-in-requires : tie.Need-find-in-requires
-find-in-requires c κs = search rules
+find_in_requires : tie.Need-find-in-requires
+find_in_requires c κs = search rules
 
-enum-known-i : tie.Need-enum-known-i
-enum-known-i c = search rules
+enum_known_i : tie.Need-enum-known-i
+enum_known_i c = search rules
 
-enum-known-i-2 : tie.Need-enum-known-i-2
-enum-known-i-2 c = search rules
+enum_known_i_2 : tie.Need-enum-known-i-2
+enum_known_i_2 c = search rules
 
 returns : tie.Need-returns
 returns c =
     let a = c.before.before.before.before.before.before.args in
-    let z = lacks-at a.klen a.key.now (runs a.held a.stride 2 a.t.now) _ _ c.before.before.before.find-in.ensures c.before.i.given.1 in
+    let z = lacks_at a.klen a.key.now (runs a.held a.stride 2 a.t.now) _ _ c.before.before.before.find-in.ensures c.before.i.given.1 in
     (z.0, z.1, omega arith)
 
-returns-2 : tie.Need-returns-2
-returns-2 c =
+returns_2 : tie.Need-returns-2
+returns_2 c =
     let a = c.before.before.before.before.before.before.args in
-    let z = lacks-gap a.klen a.key.now (runs a.held a.stride 2 a.t.now) _ _ c.before.before.before.find-in.ensures c.before.before.before.before.before.before.requires.1 c.before.i2.given.1 in
+    let z = lacks_gap a.klen a.key.now (runs a.held a.stride 2 a.t.now) _ _ c.before.before.before.find-in.ensures c.before.before.before.before.before.before.requires.1 c.before.i2.given.1 in
     (z.0, z.1, omega arith)
 
-pub lacking-below-spec : {M : Type 1} → statement M
-lacking-below-spec =
-    tie.close (tie.spec find-in-requires enum-known-i enum-known-i-2 returns returns-2)
+pub lacking_below_spec : {M : Type 1} → statement M
+lacking_below_spec =
+    tie.close (tie.spec find_in_requires enum_known_i enum_known_i_2 returns returns_2)

@@ -5,31 +5,31 @@ use Rattle.callline.proofs.LineLaws.{pulled}
 use Rattle.callline.proofs.parse_pull.Statement.{statement}
 use Rattle.callline.proofs.parse_pull.Tie as tie
 
-slice-aggregate-identifier : tie.Need-slice-aggregate-identifier
-slice-aggregate-identifier c = search rules
+slice_aggregate_identifier : tie.Need-slice-aggregate-identifier
+slice_aggregate_identifier c = search rules
 
-identifier-requires : tie.Need-identifier-requires
-identifier-requires c κs = search rules
+identifier_requires : tie.Need-identifier-requires
+identifier_requires c κs = search rules
 
-is-over-requires : tie.Need-is-over-requires
-is-over-requires c κs = search rules
+is_over_requires : tie.Need-is-over-requires
+is_over_requires c κs = search rules
 
 returns : tie.Need-returns
 returns c = (let line = c.before.before.before.before.before.args.line.now in (pulled line c.before.before.before.before.before.args.op c.before.before.identifier.result.next c.before.before.identifier.result.value c.before.before.identifier.ensures.0).1 (sym c.before.is-over.ensures ∙ not-true _ c.if1.true), tt)
 
-cast-t9 : tie.Need-overflow-cast-t9
-cast-t9 c = search rules
+cast_t9 : tie.Need-overflow-cast-t9
+cast_t9 c = search rules
 
-returns-2 : tie.Need-returns-2
-returns-2 c = (let line = c.before.before.before.before.before.before.args.line.now in (pulled line c.before.before.before.before.before.before.args.op c.before.before.before.identifier.result.next c.before.before.before.identifier.result.value c.before.before.before.identifier.ensures.0).0 (sym c.before.before.is-over.ensures ∙ not-false _ c.before.if1.false), tt)
+returns_2 : tie.Need-returns-2
+returns_2 c = (let line = c.before.before.before.before.before.before.args.line.now in (pulled line c.before.before.before.before.before.before.args.op c.before.before.before.identifier.result.next c.before.before.before.identifier.result.value c.before.before.before.identifier.ensures.0).0 (sym c.before.before.is-over.ensures ∙ not-false _ c.before.if1.false), tt)
 
-pub parse-pull-spec : {M : Type 1} → statement M
-parse-pull-spec =
+pub parse_pull_spec : {M : Type 1} → statement M
+parse_pull_spec =
     tie.close
     (tie.spec
-    slice-aggregate-identifier
-    identifier-requires
-    is-over-requires
+    slice_aggregate_identifier
+    identifier_requires
+    is_over_requires
     returns
-    cast-t9
-    returns-2)
+    cast_t9
+    returns_2)

@@ -2,24 +2,24 @@
 use native.Mathlib.Omega.{arith}
 use mathlib.Core.Path.{◌≡◌, refl, sym, ap, ◌∙◌}
 use borrow.Author.Tests.{lt-ltb, le-ltb}
-use Rattle.calltext.specs.Output.{hexByte}
+use Rattle.calltext.specs.Output.{hex_byte}
 use borrow.Author.Rules.{rules}
 use Rattle.calltext.proofs.hex_byte.Statement.{statement}
 use Rattle.calltext.proofs.hex_byte.Tie as tie
 
-add-result : tie.Need-overflow-add-result
-add-result c = search rules
+add_result : tie.Need-overflow-add-result
+add_result c = search rules
 
 returns : tie.Need-returns
-unfolding hexByte
+unfolding hex_byte
 returns c = rw (lt-ltb c.before.args.d 10 (omega arith))
 
-add-result-2 : tie.Need-overflow-add-result-2
-add-result-2 c = search rules
+add_result_2 : tie.Need-overflow-add-result-2
+add_result_2 c = search rules
 
-returns-2 : tie.Need-returns-2
-unfolding hexByte
-returns-2 c = rw (le-ltb c.before.args.d 10 (omega arith))
+returns_2 : tie.Need-returns-2
+unfolding hex_byte
+returns_2 c = rw (le-ltb c.before.args.d 10 (omega arith))
 
-pub hex-byte-spec : {M : Type 1} → statement M
-hex-byte-spec = tie.close (tie.spec add-result returns add-result-2 returns-2)
+pub hex_byte_spec : {M : Type 1} → statement M
+hex_byte_spec = tie.close (tie.spec add_result returns add_result_2 returns_2)

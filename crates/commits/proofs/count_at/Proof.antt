@@ -5,14 +5,14 @@ use Rattle.std.proofs.Common.{rules}
 use Rattle.commits.proofs.count_at.Statement.{statement}
 use Rattle.commits.proofs.count_at.Tie as tie
 
-row-requires : tie.Need-row-requires
-row-requires c κs = search rules
+row_requires : tie.Need-row-requires
+row_requires c κs = search rules
 
-commit-count-requires : tie.Need-commit-count-requires
-commit-count-requires c κs = search rules
+commit_count_requires : tie.Need-commit-count-requires
+commit_count_requires c κs = search rules
 
 returns : tie.Need-returns
-returns c = row_read c.before.before.before.args.t.now c.before.before.before.args.i c.before.row.result c.before.row.ensures.0 (λ (x : Commit). x.count) _ c.commit-count.ensures
+returns c = row_read c.before.before.before.args.t.now c.before.before.before.args.i c.before.row.result c.before.row.ensures.0 (λ (x : Commit). x.count) _ c.commit_count.ensures
 
-pub count-at-spec : {M : Type 1} → statement M
-count-at-spec = tie.close (tie.spec row-requires commit-count-requires returns)
+pub count_at_spec : {M : Type 1} → statement M
+count_at_spec = tie.close (tie.spec row_requires commit_count_requires returns)

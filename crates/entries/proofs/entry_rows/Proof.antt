@@ -3,93 +3,93 @@
 use Rattle.std.proofs.Common.{◌≡◌, ◌+◌, ◌-◌, ◌*◌, ◌≤◌, true, ◌∙◌, arith, rules}
 use borrow.Author.Tests.{not-false}
 use Rattle.octets.specs.Bytes.{part}
-use Rattle.entries.specs.Keys.{Index, rowForm, rowsOk, row_of}
-use Rattle.entries.proofs.Pass.{later, rows_none, first-not, first-yes, next-not, below-not, next-yes, rows_end}
+use Rattle.entries.specs.Keys.{Index, row_form, rows_ok, row_of}
+use Rattle.entries.proofs.Pass.{later, rows_none, first_not, first_yes, next_not, below_not, next_yes, rows_end}
 use Rattle.entries.proofs.entry_rows.Statement.{statement}
 use Rattle.entries.proofs.entry_rows.Tie as tie
 
-abbrev invariant-loop : tie.invariant-loop
-invariant-loop s n last₀ at₀ i₀ last at i =
+abbrev invariant_loop : tie.invariant_loop
+invariant_loop s n last₀ at₀ i₀ last at i =
     (1 ≤ i)
     × (at + 29 ≡ 2 + i * 29)
     × (last ≡ row_of Index (part at 29 s))
     × (last.formed ≡ true)
-    × (rowsOk Index n s ≡ later 29 (rowForm Index) s (n - i) at)
+    × (rows_ok Index n s ≡ later 29 (row_form Index) s (n - i) at)
 
-abbrev decreases-loop : tie.decreases-loop
-decreases-loop s n last₀ at₀ i₀ last at i = n - i
+abbrev decreases_loop : tie.decreases_loop
+decreases_loop s n last₀ at₀ i₀ last at i = n - i
 
-returns : tie.Need-returns invariant-loop decreases-loop
+returns : tie.Need-returns invariant_loop decreases_loop
 returns c = rows_none Index c.before.before.args.s.now (λ j. (c.before.shared-slice-known.given j).fits) c.before.before.args.n c.if1.true
 
-entry-row-requires : tie.Need-entry-row-requires invariant-loop decreases-loop
-entry-row-requires c κs = omega arith
+entry_row_requires : tie.Need-entry-row-requires invariant_loop decreases_loop
+entry_row_requires c κs = omega arith
 
-returns-2 : tie.Need-returns-2 invariant-loop decreases-loop
-returns-2 c = first-not Index c.before.before.before.before.before.args.s.now (λ j. (c.before.before.before.before.shared-slice-known.given j).fits) c.before.before.before.before.before.args.n (omega arith) c.before.before.entry_row.result c.before.before.entry_row.ensures c.if2.true
+returns_2 : tie.Need-returns-2 invariant_loop decreases_loop
+returns_2 c = first_not Index c.before.before.before.before.before.args.s.now (λ j. (c.before.before.before.before.shared-slice-known.given j).fits) c.before.before.before.before.before.args.n (omega arith) c.before.before.entry_row.result c.before.before.entry_row.ensures c.if2.true
 
-loop-holds : tie.Need-loop-init invariant-loop decreases-loop
-loop-holds c =
+loop_holds : tie.Need-loop-init invariant_loop decreases_loop
+loop_holds c =
     let a = c.before.before.before.before.before.args in
-    (omega arith, omega arith, c.before.before.entry_row.ensures, not-false _ c.if2.false, first-yes Index a.s.now (λ j. (c.before.before.before.before.shared-slice-known.given j).fits) a.n (omega arith) c.before.before.entry_row.result c.before.before.entry_row.ensures c.if2.false)
+    (omega arith, omega arith, c.before.before.entry_row.ensures, not-false _ c.if2.false, first_yes Index a.s.now (λ j. (c.before.before.before.before.shared-slice-known.given j).fits) a.n (omega arith) c.before.before.entry_row.result c.before.before.entry_row.ensures c.if2.false)
 
-add-next : tie.Need-overflow-add-next invariant-loop decreases-loop
-add-next c = omega arith
+add_next : tie.Need-overflow-add-next invariant_loop decreases_loop
+add_next c = omega arith
 
-entry-row-requires-2 : tie.Need-entry-row-requires-2 invariant-loop decreases-loop
-entry-row-requires-2 c κs = omega arith
+entry_row_requires_2 : tie.Need-entry-row-requires-2 invariant_loop decreases_loop
+entry_row_requires_2 c κs = omega arith
 
-returns-3 : tie.Need-returns-3 invariant-loop decreases-loop
-returns-3 c =
+returns_3 : tie.Need-returns-3 invariant_loop decreases_loop
+returns_3 c =
     let a = c.before.before.before.before.before.before.before.before.before.before.args in
     let l = c.before.before.before.before.loop in
-    next-not Index a.s.now (λ j. (c.before.before.before.before.before.before.before.before.before.shared-slice-known.given j).fits) a.n l.i l.at c.before.before.before.loop-test.true l.invariant.4 c.before.before.entry-row2.result c.before.before.entry-row2.ensures c.if3.true
+    next_not Index a.s.now (λ j. (c.before.before.before.before.before.before.before.before.before.shared-slice-known.given j).fits) a.n l.i l.at c.before.before.before.loop-test.true l.invariant.4 c.before.before.entry-row2.result c.before.before.entry-row2.ensures c.if3.true
 
-below-requires : tie.Need-below-requires invariant-loop decreases-loop
-below-requires c κs = search rules
+below_requires : tie.Need-below-requires invariant_loop decreases_loop
+below_requires c κs = search rules
 
-returns-4 : tie.Need-returns-4 invariant-loop decreases-loop
-returns-4 c =
+returns_4 : tie.Need-returns-4 invariant_loop decreases_loop
+returns_4 c =
     let a = c.before.before.before.before.before.before.before.before.before.before.before.before.args in
     let l = c.before.before.before.before.before.before.loop in
-    below-not Index a.s.now (λ j. (c.before.before.before.before.before.before.before.before.before.before.before.shared-slice-known.given j).fits) a.n l.i l.at c.before.before.before.before.before.loop-test.true l.invariant.4 c.before.before.before.before.entry-row2.result c.before.before.before.before.entry-row2.ensures c.before.before.if3.false l.last l.invariant.2 l.invariant.3 (omega arith) _ c.before.below.ensures c.if4.true
+    below_not Index a.s.now (λ j. (c.before.before.before.before.before.before.before.before.before.before.before.shared-slice-known.given j).fits) a.n l.i l.at c.before.before.before.before.before.loop-test.true l.invariant.4 c.before.before.before.before.entry-row2.result c.before.before.before.before.entry-row2.ensures c.before.before.if3.false l.last l.invariant.2 l.invariant.3 (omega arith) _ c.before.below.ensures c.if4.true
 
-add-i : tie.Need-overflow-add-i invariant-loop decreases-loop
-add-i c = omega arith
+add_i : tie.Need-overflow-add-i invariant_loop decreases_loop
+add_i c = omega arith
 
-loop-less : tie.Need-loop-smaller invariant-loop decreases-loop
-loop-less c = omega arith
+loop_less : tie.Need-loop-smaller invariant_loop decreases_loop
+loop_less c = omega arith
 
-loop-again : tie.Need-loop-preserved invariant-loop decreases-loop
-loop-again c =
+loop_again : tie.Need-loop-preserved invariant_loop decreases_loop
+loop_again c =
     let a = c.before.before.before.before.before.before.before.before.before.before.before.before.args in
     let l = c.before.before.before.before.before.before.loop in (
       omega arith,
       omega arith,
       c.before.before.before.before.entry-row2.ensures,
       not-false _ c.before.before.if3.false,
-      next-yes Index a.s.now (λ j. (c.before.before.before.before.before.before.before.before.before.before.before.shared-slice-known.given j).fits) a.n l.i l.at c.before.before.before.before.before.loop-test.true l.invariant.4 c.before.before.before.before.entry-row2.result c.before.before.before.before.entry-row2.ensures c.before.before.if3.false l.last l.invariant.2 l.invariant.3 (omega arith) _ c.before.below.ensures c.if4.false,
+      next_yes Index a.s.now (λ j. (c.before.before.before.before.before.before.before.before.before.before.before.shared-slice-known.given j).fits) a.n l.i l.at c.before.before.before.before.before.loop-test.true l.invariant.4 c.before.before.before.before.entry-row2.result c.before.before.before.before.entry-row2.ensures c.before.before.if3.false l.last l.invariant.2 l.invariant.3 (omega arith) _ c.before.below.ensures c.if4.false,
     )
 
-returns-5 : tie.Need-returns-5 invariant-loop decreases-loop
-returns-5 c = rows_end Index c.before.before.before.before.before.before.before.args.s.now (λ j. (c.before.before.before.before.before.before.shared-slice-known.given j).fits) c.before.before.before.before.before.before.before.args.n c.before.loop.i c.before.loop.at c.loop-test.false c.before.loop.invariant.4
+returns_5 : tie.Need-returns-5 invariant_loop decreases_loop
+returns_5 c = rows_end Index c.before.before.before.before.before.before.before.args.s.now (λ j. (c.before.before.before.before.before.before.shared-slice-known.given j).fits) c.before.before.before.before.before.before.before.args.n c.before.loop.i c.before.loop.at c.loop-test.false c.before.loop.invariant.4
 
-pub entry-rows-spec : {M : Type 1} → statement M
-entry-rows-spec =
+pub entry_rows_spec : {M : Type 1} → statement M
+entry_rows_spec =
     tie.close
     (tie.spec
-    invariant-loop
-    decreases-loop
+    invariant_loop
+    decreases_loop
     returns
-    entry-row-requires
-    returns-2
-    loop-holds
-    add-next
-    entry-row-requires-2
-    returns-3
-    below-requires
-    returns-4
-    add-i
-    loop-less
-    loop-again
-    returns-5)
+    entry_row_requires
+    returns_2
+    loop_holds
+    add_next
+    entry_row_requires_2
+    returns_3
+    below_requires
+    returns_4
+    add_i
+    loop_less
+    loop_again
+    returns_5)

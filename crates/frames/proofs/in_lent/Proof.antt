@@ -7,8 +7,8 @@ use Rattle.frames.proofs.in_lent.Tie as tie
 returns : tie.Need-returns
 returns c = (rw (lt-leb _ _ c.if1.true), tt)
 
-returns-2 : tie.Need-returns-2
-returns-2 c = (rw (le-leb c.before.args.run.end c.before.args.lent (omega arith)), omega arith)
+returns_2 : tie.Need-returns-2
+returns_2 c = (rw (le-leb c.before.args.run.end c.before.args.lent (omega arith)), omega arith)
 
-pub in-lent-spec : {M : Type 1} → statement M
-in-lent-spec = tie.close (tie.spec returns returns-2)
+pub in_lent_spec : {M : Type 1} → statement M
+in_lent_spec = tie.close (tie.spec returns returns_2)

@@ -1,57 +1,57 @@
 -- `indexing::checkpoint_rows` meets its contract. The invariant: the first i rows are those of the first i LSNs; the measure: n - i.
 use Rattle.std.proofs.Common.{◌≡◌, ◌-◌, ◌≤◌, length, arith, rules}
 use Rattle.table.specs.Table.{runs}
-use Rattle.indexing.specs.Rows.{listed, checkpointRows}
-use Rattle.indexing.proofs.CheckpointRows.{stored-none, stored_more}
+use Rattle.indexing.specs.Rows.{listed, checkpoint_rows}
+use Rattle.indexing.proofs.CheckpointRows.{stored_none, stored_more}
 use Rattle.indexing.proofs.checkpoint_rows.Statement.{statement}
 use Rattle.indexing.proofs.checkpoint_rows.Tie as tie
 
-abbrev invariant-loop : tie.invariant-loop
-invariant-loop log n lsns rows₀ i₀ rows i = (i ≤ n) × (length rows ≡ 200) × (runs i 25 0 rows ≡ checkpointRows log (listed lsns i))
+abbrev invariant_loop : tie.invariant_loop
+invariant_loop log n lsns rows₀ i₀ rows i = (i ≤ n) × (length rows ≡ 200) × (runs i 25 0 rows ≡ checkpoint_rows log (listed lsns i))
 
-abbrev decreases-loop : tie.decreases-loop
-decreases-loop log n lsns rows₀ i₀ rows i = n - i
+abbrev decreases_loop : tie.decreases_loop
+decreases_loop log n lsns rows₀ i₀ rows i = n - i
 
-long : (c : tie.Start invariant-loop decreases-loop) → length c.args.log ≡ 16
+long : (c : tie.Start invariant_loop decreases_loop) → length c.args.log ≡ 16
 long c = search rules
 
-eight : (c : tie.Start invariant-loop decreases-loop) → length c.args.t2 ≡ 8
+eight : (c : tie.Start invariant_loop decreases_loop) → length c.args.t2 ≡ 8
 eight c = search rules
 
-loop-holds : tie.Need-loop-init invariant-loop decreases-loop
-loop-holds c = (omega arith, search rules, stored-none c.args.log (long (c)) c.args.t2 _)
+loop_holds : tie.Need-loop-init invariant_loop decreases_loop
+loop_holds c = (omega arith, search rules, stored_none c.args.log (long (c)) c.args.t2 _)
 
-mul-lsn : tie.Need-overflow-mul-lsn invariant-loop decreases-loop
-mul-lsn c = omega arith
+mul_lsn : tie.Need-overflow-mul-lsn invariant_loop decreases_loop
+mul_lsn c = omega arith
 
-array-copy-out-lsn : tie.Need-array-copy-out-lsn invariant-loop decreases-loop
-array-copy-out-lsn c = omega arith
+array_copy_out_lsn : tie.Need-array-copy-out-lsn invariant_loop decreases_loop
+array_copy_out_lsn c = omega arith
 
-log-key-requires : tie.Need-log-key-requires invariant-loop decreases-loop
-log-key-requires c κs = search rules
+log_key_requires : tie.Need-log-key-requires invariant_loop decreases_loop
+log_key_requires c κs = search rules
 
-slice-aggregate-store-all : tie.Need-slice-aggregate-store-all invariant-loop decreases-loop
-slice-aggregate-store-all c = search rules
+slice_aggregate_store_all : tie.Need-slice-aggregate-store-all invariant_loop decreases_loop
+slice_aggregate_store_all c = search rules
 
-mul-store-all : tie.Need-overflow-mul-store-all invariant-loop decreases-loop
-mul-store-all c = omega arith
+mul_store_all : tie.Need-overflow-mul-store-all invariant_loop decreases_loop
+mul_store_all c = omega arith
 
-slice-aggregate-store-all-2 : tie.Need-slice-aggregate-store-all-2 invariant-loop decreases-loop
-slice-aggregate-store-all-2 c = search rules
+slice_aggregate_store_all_2 : tie.Need-slice-aggregate-store-all-2 invariant_loop decreases_loop
+slice_aggregate_store_all_2 c = search rules
 
-store-all-requires : tie.Need-store-all-requires invariant-loop decreases-loop
-store-all-requires c κs =
+store_all_requires : tie.Need-store-all-requires invariant_loop decreases_loop
+store_all_requires c κs =
     let k : length c.before.before.log-key.result ≡ 25 = search rules in
     omega (arith, c.before.before.before.before.before.loop.invariant.1)
 
-add-i : tie.Need-overflow-add-i invariant-loop decreases-loop
-add-i c = omega arith
+add_i : tie.Need-overflow-add-i invariant_loop decreases_loop
+add_i c = omega arith
 
-loop-less : tie.Need-loop-smaller invariant-loop decreases-loop
-loop-less c = omega arith
+loop_less : tie.Need-loop-smaller invariant_loop decreases_loop
+loop_less c = omega arith
 
-loop-again : tie.Need-loop-preserved invariant-loop decreases-loop
-loop-again c =
+loop_again : tie.Need-loop-preserved invariant_loop decreases_loop
+loop_again c =
     let a = c.before.before.before.before.before.before.before.before.args in
     let l = c.before.before.before.before.before.before.before.loop in (
       omega arith,
@@ -59,27 +59,27 @@ loop-again c =
       stored_more a.log (long c.before.before.before.before.before.before.before.before) a.t2 l.i c.before.before.before.before.log-key.result l.rows _ (omega (arith, eight c.before.before.before.before.before.before.before.before)) (omega (arith, l.invariant.1)) c.before.before.before.before.log-key.ensures c.before.store-all.ensures l.invariant.2,
     )
 
-returns : tie.Need-returns invariant-loop decreases-loop
+returns : tie.Need-returns invariant_loop decreases_loop
 returns c =
     let l = c.before.loop in
     let z : l.i ≡ c.before.before.args.n = omega arith in
     rw z at l.invariant.2
 
-pub checkpoint-rows-spec : {M : Type 1} → statement M
-checkpoint-rows-spec =
+pub checkpoint_rows_spec : {M : Type 1} → statement M
+checkpoint_rows_spec =
     tie.close
     (tie.spec
-    invariant-loop
-    decreases-loop
-    loop-holds
-    mul-lsn
-    array-copy-out-lsn
-    log-key-requires
-    slice-aggregate-store-all
-    mul-store-all
-    slice-aggregate-store-all-2
-    store-all-requires
-    add-i
-    loop-less
-    loop-again
+    invariant_loop
+    decreases_loop
+    loop_holds
+    mul_lsn
+    array_copy_out_lsn
+    log_key_requires
+    slice_aggregate_store_all
+    mul_store_all
+    slice_aggregate_store_all_2
+    store_all_requires
+    add_i
+    loop_less
+    loop_again
     returns)

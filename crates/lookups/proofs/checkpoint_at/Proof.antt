@@ -1,19 +1,19 @@
 -- The place of the key has the checkpoint, or there is none.
 use borrow.Author.Rules.{rules}
-use Rattle.core.specs.Prelude.{◌≡◌, ◌^◌, ◌<◌, length}
+use Rattle.std.specs.Prelude.{◌≡◌, ◌^◌, ◌<◌, length}
 use native.Mathlib.Omega.{arith}
 use borrow.Author.Tests.{not-true, not-false}
 use mir.Val.{Fits}
 use mir.Syntax.{w64}
 use Rattle.table.specs.Table.{count_of}
-use Rattle.table.proofs.Checks.{well-two}
+use Rattle.table.proofs.Checks.{well_two}
 use Rattle.rules.specs.Records.{Checkpoint}
-use Rattle.rows.proofs.Rows.{formed-well}
-use Rattle.rows.proofs.Finds.{row-nth, row-end}
+use Rattle.rows.proofs.Rows.{formed_well}
+use Rattle.rows.proofs.Finds.{row_nth, row_end}
 use Rattle.rows.proofs.Checks.{row_in}
 use Rattle.rows.proofs.Tables.{checkpoints}
-use Rattle.lookups.proofs.Places.{found_none, found-not, found_it, checkpoint-place}
-use Rattle.lookups.specs.Found.{atOrBelow}
+use Rattle.lookups.proofs.Places.{found_none, found_not, found_it, checkpoint_place}
+use Rattle.lookups.specs.Found.{at_or_below}
 use Rattle.lookups.proofs.checkpoint_at.Statement.{statement}
 use Rattle.lookups.proofs.checkpoint_at.Tie as tie
 
@@ -23,22 +23,22 @@ long c = search rules
 small : (c : tie.Start) → c.args.lsn.0 < 256 ^ 8
 small c = let f : Fits w64 c.args.lsn.0 = search rules in f.fits
 
-log-key-requires : tie.Need-log-key-requires
-log-key-requires c κs = search rules
+log_key_requires : tie.Need-log-key-requires
+log_key_requires c κs = search rules
 
-slice-aggregate-from-key : tie.Need-slice-aggregate-from-key
-slice-aggregate-from-key c = search rules
+slice_aggregate_from_key : tie.Need-slice-aggregate-from-key
+slice_aggregate_from_key c = search rules
 
-from-key-requires : tie.Need-from-key-requires
-from-key-requires c κs = (search rules, formed-well checkpoints c.before.before.before.args.t.now c.before.before.before.requires)
+from_key_requires : tie.Need-from-key-requires
+from_key_requires c κs = (search rules, formed_well checkpoints c.before.before.before.args.t.now c.before.before.before.requires)
 
-count-requires : tie.Need-count-requires
-count-requires c κs = well-two 25 25 c.before.before.before.before.args.t.now (formed-well checkpoints c.before.before.before.before.args.t.now c.before.before.before.before.requires)
+count_requires : tie.Need-count-requires
+count_requires c κs = well_two 25 25 c.before.before.before.before.args.t.now (formed_well checkpoints c.before.before.before.before.args.t.now c.before.before.before.before.requires)
 
 returns : tie.Need-returns
 returns c =
-    found_none (λ (k : Checkpoint). k.lsn) (atOrBelow c.before.before.before.before.before.before.args.log c.before.before.before.before.before.before.args.lsn.0) _ _ (checkpoint-place c.before.before.before.before.before.before.args.t.now c.before.before.before.before.before.before.requires c.before.before.before.before.before.before.args.log c.before.before.before.before.before.before.args.lsn.0 (long c.before.before.before.before.before.before) (small c.before.before.before.before.before.before) _ c.before.before.before.before.log-key.ensures c.before.before.from_key.result c.before.before.from_key.ensures.0)
-    (row-end checkpoints c.before.before.before.before.before.before.args.t.now c.before.before.from_key.result (omega (arith, c.before.count.ensures.0, c.if1.true)))
+    found_none (λ (k : Checkpoint). k.lsn) (at_or_below c.before.before.before.before.before.before.args.log c.before.before.before.before.before.before.args.lsn.0) _ _ (checkpoint_place c.before.before.before.before.before.before.args.t.now c.before.before.before.before.before.before.requires c.before.before.before.before.before.before.args.log c.before.before.before.before.before.before.args.lsn.0 (long c.before.before.before.before.before.before) (small c.before.before.before.before.before.before) _ c.before.before.before.before.log-key.ensures c.before.before.from_key.result c.before.before.from_key.ensures.0)
+    (row_end checkpoints c.before.before.before.before.before.before.args.t.now c.before.before.from_key.result (omega (arith, c.before.count.ensures.0, c.if1.true)))
 
 mul_at : tie.Need-overflow-mul-at
 mul_at c = omega (arith, c.before.before.from_key.ensures.1, c.before.count.ensures.0, c.before.count.ensures.1)
@@ -46,36 +46,36 @@ mul_at c = omega (arith, c.before.before.from_key.ensures.1, c.before.count.ensu
 add_at : tie.Need-overflow-add-at
 add_at c = omega (arith, c.before.before.from_key.ensures.1, c.before.count.ensures.0, c.before.count.ensures.1)
 
-at-or-below-requires : tie.Need-at-or-below-requires
-at-or-below-requires c κs = row_in checkpoints c.before.before.before.before.before.before.args.t.now c.before.before.before.before.before.before.requires c.before.before.from_key.result (omega (arith, c.before.before.from_key.ensures.1, c.before.count.ensures.0, c.if1.false))
+at_or_below_requires : tie.Need-at-or-below-requires
+at_or_below_requires c κs = row_in checkpoints c.before.before.before.before.before.before.args.t.now c.before.before.before.before.before.before.requires c.before.before.from_key.result (omega (arith, c.before.before.from_key.ensures.1, c.before.count.ensures.0, c.if1.false))
 
-returns-2 : tie.Need-returns-2
-returns-2 c =
+returns_2 : tie.Need-returns-2
+returns_2 c =
     let l : c.before.before.before.before.from_key.result < count_of c.before.before.before.before.before.before.before.before.args.t.now = omega (arith, c.before.before.before.before.from_key.ensures.1, c.before.before.before.count.ensures.0, c.before.before.if1.false) in
-    found-not (λ (k : Checkpoint). k.lsn) (atOrBelow c.before.before.before.before.before.before.before.before.args.log c.before.before.before.before.before.before.before.before.args.lsn.0) _ _ (checkpoint-place c.before.before.before.before.before.before.before.before.args.t.now c.before.before.before.before.before.before.before.before.requires c.before.before.before.before.before.before.before.before.args.log c.before.before.before.before.before.before.before.before.args.lsn.0 (long c.before.before.before.before.before.before.before.before) (small c.before.before.before.before.before.before.before.before) _ c.before.before.before.before.before.before.log-key.ensures c.before.before.before.before.from_key.result c.before.before.before.before.from_key.ensures.0) _
-    (row-nth checkpoints c.before.before.before.before.before.before.before.before.args.t.now c.before.before.before.before.from_key.result l) _ c.before.at-or-below.ensures (not-true _ c.if2.true)
+    found_not (λ (k : Checkpoint). k.lsn) (at_or_below c.before.before.before.before.before.before.before.before.args.log c.before.before.before.before.before.before.before.before.args.lsn.0) _ _ (checkpoint_place c.before.before.before.before.before.before.before.before.args.t.now c.before.before.before.before.before.before.before.before.requires c.before.before.before.before.before.before.before.before.args.log c.before.before.before.before.before.before.before.before.args.lsn.0 (long c.before.before.before.before.before.before.before.before) (small c.before.before.before.before.before.before.before.before) _ c.before.before.before.before.before.before.log-key.ensures c.before.before.before.before.from_key.result c.before.before.before.before.from_key.ensures.0) _
+    (row_nth checkpoints c.before.before.before.before.before.before.before.before.args.t.now c.before.before.before.before.from_key.result l) _ c.before.at-or-below.ensures (not-true _ c.if2.true)
 
-checkpoint-lsn-requires : tie.Need-checkpoint-lsn-requires
-checkpoint-lsn-requires c κs = row_in checkpoints c.before.before.before.before.before.before.before.before.args.t.now c.before.before.before.before.before.before.before.before.requires c.before.before.before.before.from_key.result (omega (arith, c.before.before.before.before.from_key.ensures.1, c.before.before.before.count.ensures.0, c.before.before.if1.false))
+checkpoint_lsn_requires : tie.Need-checkpoint-lsn-requires
+checkpoint_lsn_requires c κs = row_in checkpoints c.before.before.before.before.before.before.before.before.args.t.now c.before.before.before.before.before.before.before.before.requires c.before.before.before.before.from_key.result (omega (arith, c.before.before.before.before.from_key.ensures.1, c.before.before.before.count.ensures.0, c.before.before.if1.false))
 
-returns-3 : tie.Need-returns-3
-returns-3 c =
+returns_3 : tie.Need-returns-3
+returns_3 c =
     let l : c.before.before.before.before.before.from_key.result < count_of c.before.before.before.before.before.before.before.before.before.args.t.now = omega (arith, c.before.before.before.before.before.from_key.ensures.1, c.before.before.before.before.count.ensures.0, c.before.before.before.if1.false) in
-    found_it (λ (k : Checkpoint). k.lsn) (atOrBelow c.before.before.before.before.before.before.before.before.before.args.log c.before.before.before.before.before.before.before.before.before.args.lsn.0) _ _ (checkpoint-place c.before.before.before.before.before.before.before.before.before.args.t.now c.before.before.before.before.before.before.before.before.before.requires c.before.before.before.before.before.before.before.before.before.args.log c.before.before.before.before.before.before.before.before.before.args.lsn.0 (long c.before.before.before.before.before.before.before.before.before) (small c.before.before.before.before.before.before.before.before.before) _ c.before.before.before.before.before.before.before.log-key.ensures c.before.before.before.before.before.from_key.result c.before.before.before.before.before.from_key.ensures.0) _
-    (row-nth checkpoints c.before.before.before.before.before.before.before.before.before.args.t.now c.before.before.before.before.before.from_key.result l) _ c.before.before.at-or-below.ensures (not-false _ c.before.if2.false) _ c.checkpoint-lsn.ensures
+    found_it (λ (k : Checkpoint). k.lsn) (at_or_below c.before.before.before.before.before.before.before.before.before.args.log c.before.before.before.before.before.before.before.before.before.args.lsn.0) _ _ (checkpoint_place c.before.before.before.before.before.before.before.before.before.args.t.now c.before.before.before.before.before.before.before.before.before.requires c.before.before.before.before.before.before.before.before.before.args.log c.before.before.before.before.before.before.before.before.before.args.lsn.0 (long c.before.before.before.before.before.before.before.before.before) (small c.before.before.before.before.before.before.before.before.before) _ c.before.before.before.before.before.before.before.log-key.ensures c.before.before.before.before.before.from_key.result c.before.before.before.before.before.from_key.ensures.0) _
+    (row_nth checkpoints c.before.before.before.before.before.before.before.before.before.args.t.now c.before.before.before.before.before.from_key.result l) _ c.before.before.at-or-below.ensures (not-false _ c.before.if2.false) _ c.checkpoint_lsn.ensures
 
-pub checkpoint-at-spec : {M : Type 1} → statement M
-checkpoint-at-spec =
+pub checkpoint_at_spec : {M : Type 1} → statement M
+checkpoint_at_spec =
     tie.close
     (tie.spec
-    log-key-requires
-    slice-aggregate-from-key
-    from-key-requires
-    count-requires
+    log_key_requires
+    slice_aggregate_from_key
+    from_key_requires
+    count_requires
     returns
     mul_at
     add_at
-    at-or-below-requires
-    returns-2
-    checkpoint-lsn-requires
-    returns-3)
+    at_or_below_requires
+    returns_2
+    checkpoint_lsn_requires
+    returns_3)

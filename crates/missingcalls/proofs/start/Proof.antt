@@ -5,11 +5,11 @@ use Rattle.commits.specs.declared.Place.TheVariants.{Missing}
 use Rattle.missingcalls.proofs.start.Statement.{statement}
 use Rattle.missingcalls.proofs.start.Tie as tie
 
-empty-requires : tie.Need-empty-requires
-empty-requires c κs = search rules
+empty_requires : tie.Need-empty-requires
+empty_requires c κs = search rules
 
 returns : tie.Need-returns
 returns c = ap (λ (x : PageSet). record { at = Missing; gift = x; frame = 0; next = 0 }) c.empty.ensures
 
 pub start_spec : {M : Type 1} → statement M
-start_spec = tie.close (tie.spec empty-requires returns)
+start_spec = tie.close (tie.spec empty_requires returns)

@@ -4,56 +4,56 @@ use native.Mathlib.Omega.{arith}
 use mathlib.Core.Path.{◌≡◌, refl, ap, ◌∙◌}
 use Prim.Native.Nat.{ℕ, ◌-◌, ◌≤◌}
 use mathlib.Core.Logic.{⊎_elim}
-use Rattle.octets.specs.Bytes.{part, allZero}
-use Rattle.octets.proofs.Turns.{zero_more, zero-not}
+use Rattle.octets.specs.Bytes.{part, all_zero}
+use Rattle.octets.proofs.Turns.{zero_more, zero_not}
 use Rattle.octets.proofs.all_zero.Statement.{statement}
 use Rattle.octets.proofs.all_zero.Tie as tie
 
-abbrev invariant-loop : tie.invariant-loop
-invariant-loop s at n clean₀ i₀ clean i = (i ≤ n) × (clean ≡ allZero (part at i s))
+abbrev invariant_loop : tie.invariant_loop
+invariant_loop s at n clean₀ i₀ clean i = (i ≤ n) × (clean ≡ all_zero (part at i s))
 
-abbrev decreases-loop : tie.decreases-loop
-decreases-loop s at n clean₀ i₀ clean i = n - i
+abbrev decreases_loop : tie.decreases_loop
+decreases_loop s at n clean₀ i₀ clean i = n - i
 
-loop-holds : tie.Need-loop-init invariant-loop decreases-loop
-unfolding part allZero
-loop-holds c = (search rules, refl)
+loop_holds : tie.Need-loop-init invariant_loop decreases_loop
+unfolding part all_zero
+loop_holds c = (search rules, refl)
 
-add-if1 : tie.Need-overflow-add-if1 invariant-loop decreases-loop
-add-if1 c = search rules
+add_if1 : tie.Need-overflow-add-if1 invariant_loop decreases_loop
+add_if1 c = search rules
 
-shared-slice-read-if1 : tie.Need-shared-slice-read-if1 invariant-loop decreases-loop
-shared-slice-read-if1 c = search rules
+shared_slice_read_if1 : tie.Need-shared-slice-read-if1 invariant_loop decreases_loop
+shared_slice_read_if1 c = search rules
 
-add-i : tie.Need-overflow-add-i invariant-loop decreases-loop
-add-i c = search rules
+add_i : tie.Need-overflow-add-i invariant_loop decreases_loop
+add_i c = search rules
 
-loop-less : tie.Need-loop-smaller invariant-loop decreases-loop
-loop-less c = search rules
+loop_less : tie.Need-loop-smaller invariant_loop decreases_loop
+loop_less c = search rules
 
-loop-again : tie.Need-loop-preserved invariant-loop decreases-loop
-loop-again c =
+loop_again : tie.Need-loop-preserved invariant_loop decreases_loop
+loop_again c =
     let l = c.before.before.before.loop in
     let a = c.before.before.before.before.args in
-    (search rules, ⊎_elim (λ w. w.1 ∙ zero-not a.s.now a.at l.i l.clean l.invariant.1 (omega arith) w.0.taken) (λ w. w.1 ∙ zero_more a.s.now a.at l.i l.clean l.invariant.1 (omega arith) w.0.left) c.if1.branch)
+    (search rules, ⊎_elim (λ w. w.1 ∙ zero_not a.s.now a.at l.i l.clean l.invariant.1 (omega arith) w.0.taken) (λ w. w.1 ∙ zero_more a.s.now a.at l.i l.clean l.invariant.1 (omega arith) w.0.left) c.if1.branch)
 
-returns : tie.Need-returns invariant-loop decreases-loop
+returns : tie.Need-returns invariant_loop decreases_loop
 returns c =
     let l = c.before.loop in
     let a = c.before.before.args in
     let e : l.i ≡ a.n = omega arith in
-    l.invariant.1 ∙ ap (λ (k : ℕ). allZero (part a.at k a.s.now)) e
+    l.invariant.1 ∙ ap (λ (k : ℕ). all_zero (part a.at k a.s.now)) e
 
-pub all-zero-spec : {M : Type 1} → statement M
-all-zero-spec =
+pub all_zero_spec : {M : Type 1} → statement M
+all_zero_spec =
     tie.close
     (tie.spec
-    invariant-loop
-    decreases-loop
-    loop-holds
-    add-if1
-    shared-slice-read-if1
-    add-i
-    loop-less
-    loop-again
+    invariant_loop
+    decreases_loop
+    loop_holds
+    add_if1
+    shared_slice_read_if1
+    add_i
+    loop_less
+    loop_again
     returns)

@@ -9,61 +9,61 @@ use Rattle.octets.proofs.Turns.{first_word, second_word}
 use Rattle.octets.proofs.compare_id.Statement.{statement}
 use Rattle.octets.proofs.compare_id.Tie as tie
 
-bytes-a : (c : tie.Start) → AreBytes c.args.t1
-bytes-a c j = let f : Fits w8 (get_or c.args.t1 j 0) = search rules in f.fits
+bytes_a : (c : tie.Start) → AreBytes c.args.t1
+bytes_a c j = let f : Fits w8 (get_or c.args.t1 j 0) = search rules in f.fits
 
-bytes-b : (c : tie.Start) → AreBytes c.args.t2
-bytes-b c j = let f : Fits w8 (get_or c.args.t2 j 0) = search rules in f.fits
+bytes_b : (c : tie.Start) → AreBytes c.args.t2
+bytes_b c j = let f : Fits w8 (get_or c.args.t2 j 0) = search rules in f.fits
 
-slice-aggregate-load64 : tie.Need-slice-aggregate-load64
-slice-aggregate-load64 c = search rules
+slice_aggregate_load64 : tie.Need-slice-aggregate-load64
+slice_aggregate_load64 c = search rules
 
-load64-requires : tie.Need-load64-requires
-load64-requires c κs = search rules
+load64_requires : tie.Need-load64-requires
+load64_requires c κs = search rules
 
-slice-aggregate-load64-2 : tie.Need-slice-aggregate-load64-2
-slice-aggregate-load64-2 c = search rules
+slice_aggregate_load64_2 : tie.Need-slice-aggregate-load64-2
+slice_aggregate_load64_2 c = search rules
 
-load64-requires-2 : tie.Need-load64-requires-2
-load64-requires-2 c κs = search rules
+load64_requires_2 : tie.Need-load64-requires-2
+load64_requires_2 c κs = search rules
 
-compare-numbers-requires : tie.Need-compare-numbers-requires
-compare-numbers-requires c κs = search rules
+compare_numbers_requires : tie.Need-compare-numbers-requires
+compare_numbers_requires c κs = search rules
 
 returns : tie.Need-returns
-returns c = c.compare-numbers.ensures ∙ sym (first_word c.before.before.before.before.before.before.args.t1 c.before.before.before.before.before.before.args.t2 (search rules) (search rules) (bytes-a c.before.before.before.before.before.before) (bytes-b c.before.before.before.before.before.before) _ _ c.before.before.before.before.load64.ensures c.before.before.load642.ensures c.before.if1.true)
+returns c = c.compare-numbers.ensures ∙ sym (first_word c.before.before.before.before.before.before.args.t1 c.before.before.before.before.before.before.args.t2 (search rules) (search rules) (bytes_a c.before.before.before.before.before.before) (bytes_b c.before.before.before.before.before.before) _ _ c.before.before.before.before.load64.ensures c.before.before.load642.ensures c.before.if1.true)
 
-slice-aggregate-load64-3 : tie.Need-slice-aggregate-load64-3
-slice-aggregate-load64-3 c = search rules
+slice_aggregate_load64_3 : tie.Need-slice-aggregate-load64-3
+slice_aggregate_load64_3 c = search rules
 
-load64-requires-3 : tie.Need-load64-requires-3
-load64-requires-3 c κs = search rules
+load64_requires_3 : tie.Need-load64-requires-3
+load64_requires_3 c κs = search rules
 
-slice-aggregate-load64-4 : tie.Need-slice-aggregate-load64-4
-slice-aggregate-load64-4 c = search rules
+slice_aggregate_load64_4 : tie.Need-slice-aggregate-load64-4
+slice_aggregate_load64_4 c = search rules
 
-load64-requires-4 : tie.Need-load64-requires-4
-load64-requires-4 c κs = search rules
+load64_requires_4 : tie.Need-load64-requires-4
+load64_requires_4 c κs = search rules
 
-compare-numbers-requires-2 : tie.Need-compare-numbers-requires-2
-compare-numbers-requires-2 c κs = search rules
+compare_numbers_requires_2 : tie.Need-compare-numbers-requires-2
+compare_numbers_requires_2 c κs = search rules
 
-returns-2 : tie.Need-returns-2
-returns-2 c = c.compare-numbers2.ensures ∙ sym (second_word c.before.before.before.before.before.before.before.before.before.before.args.t1 c.before.before.before.before.before.before.before.before.before.before.args.t2 (search rules) (search rules) (bytes-a c.before.before.before.before.before.before.before.before.before.before) (bytes-b c.before.before.before.before.before.before.before.before.before.before) _ _ c.before.before.before.before.before.before.before.before.load64.ensures c.before.before.before.before.before.before.load642.ensures c.before.before.before.before.before.if1.false _ _ c.before.before.before.load643.ensures c.before.load644.ensures)
+returns_2 : tie.Need-returns-2
+returns_2 c = c.compare-numbers2.ensures ∙ sym (second_word c.before.before.before.before.before.before.before.before.before.before.args.t1 c.before.before.before.before.before.before.before.before.before.before.args.t2 (search rules) (search rules) (bytes_a c.before.before.before.before.before.before.before.before.before.before) (bytes_b c.before.before.before.before.before.before.before.before.before.before) _ _ c.before.before.before.before.before.before.before.before.load64.ensures c.before.before.before.before.before.before.load642.ensures c.before.before.before.before.before.if1.false _ _ c.before.before.before.load643.ensures c.before.load644.ensures)
 
-pub compare-id-spec : {M : Type 1} → statement M
-compare-id-spec =
+pub compare_id_spec : {M : Type 1} → statement M
+compare_id_spec =
     tie.close
     (tie.spec
-    slice-aggregate-load64
-    load64-requires
-    slice-aggregate-load64-2
-    load64-requires-2
-    compare-numbers-requires
+    slice_aggregate_load64
+    load64_requires
+    slice_aggregate_load64_2
+    load64_requires_2
+    compare_numbers_requires
     returns
-    slice-aggregate-load64-3
-    load64-requires-3
-    slice-aggregate-load64-4
-    load64-requires-4
-    compare-numbers-requires-2
-    returns-2)
+    slice_aggregate_load64_3
+    load64_requires_3
+    slice_aggregate_load64_4
+    load64_requires_4
+    compare_numbers_requires_2
+    returns_2)

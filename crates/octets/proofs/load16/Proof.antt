@@ -1,51 +1,51 @@
 -- `octets::load16` meets its contract, by the law of one byte more.
 use borrow.Author.Rules.{rules}
 use native.Mathlib.Omega.{arith}
-use Rattle.octets.proofs.Places.{be-at, be-more}
+use Rattle.octets.proofs.Places.{be_at, be_more}
 use Rattle.octets.proofs.load16.Statement.{statement}
 use Rattle.octets.proofs.load16.Tie as tie
 
-shared-slice-read-wide : tie.Need-shared-slice-read-wide
-shared-slice-read-wide c = search rules
+shared_slice_read_wide : tie.Need-shared-slice-read-wide
+shared_slice_read_wide c = search rules
 
-wide-requires : tie.Need-wide-requires
-wide-requires c κs = search rules
+wide_requires : tie.Need-wide-requires
+wide_requires c κs = search rules
 
-mul-result : tie.Need-overflow-mul-result
-mul-result c = search rules
+mul_result : tie.Need-overflow-mul-result
+mul_result c = search rules
 
 add_wide : tie.Need-overflow-add-wide
 add_wide c = search rules
 
-shared-slice-read-wide-2 : tie.Need-shared-slice-read-wide-2
-shared-slice-read-wide-2 c = search rules
+shared_slice_read_wide_2 : tie.Need-shared-slice-read-wide-2
+shared_slice_read_wide_2 c = search rules
 
-wide-requires-2 : tie.Need-wide-requires-2
-wide-requires-2 c κs = search rules
+wide_requires_2 : tie.Need-wide-requires-2
+wide_requires_2 c κs = search rules
 
-add-result : tie.Need-overflow-add-result
-add-result c = search rules
+add_result : tie.Need-overflow-add-result
+add_result c = search rules
 
-cast-result : tie.Need-overflow-cast-result
-cast-result c = search rules
+cast_result : tie.Need-overflow-cast-result
+cast_result c = search rules
 
 returns : tie.Need-returns
 returns c =
     let a = c.before.before.before.before.before.args in
-    let one = be-at a.at a.s.now (omega arith) in
-    let two = be-more a.at 1 a.s.now (omega arith) in
+    let one = be_at a.at a.s.now (omega arith) in
+    let two = be_more a.at 1 a.s.now (omega arith) in
     (omega arith, search rules)
 
-pub load16-spec : {M : Type 1} → statement M
-load16-spec =
+pub load16_spec : {M : Type 1} → statement M
+load16_spec =
     tie.close
     (tie.spec
-    shared-slice-read-wide
-    wide-requires
-    mul-result
+    shared_slice_read_wide
+    wide_requires
+    mul_result
     add_wide
-    shared-slice-read-wide-2
-    wide-requires-2
-    add-result
-    cast-result
+    shared_slice_read_wide_2
+    wide_requires_2
+    add_result
+    cast_result
     returns)

@@ -1,32 +1,32 @@
 -- `octets::same` meets its contract: each case of `compare` is a case of the definition.
 use borrow.Author.Rules.{rules}
 use mathlib.Core.Path.{sym, ap, ◌∙◌}
-use Rattle.octets.specs.Order.{isEqual}
+use Rattle.octets.specs.Order.{is_equal}
 use Rattle.octets.proofs.same.Statement.{statement}
 use Rattle.octets.proofs.same.Tie as tie
 
-compare-requires : tie.Need-compare-requires
-compare-requires c κs = search rules
+compare_requires : tie.Need-compare-requires
+compare_requires c κs = search rules
 
 enum_told : tie.Need-enum-told
 enum_told c = search rules
 
-enum-told-2 : tie.Need-enum-told-2
-enum-told-2 c = search rules
+enum_told_2 : tie.Need-enum-told-2
+enum_told_2 c = search rules
 
-enum-told-3 : tie.Need-enum-told-3
-enum-told-3 c = search rules
+enum_told_3 : tie.Need-enum-told-3
+enum_told_3 c = search rules
 
 returns : tie.Need-returns
-returns c = ap isEqual (sym c.enum_told.given.1 ∙ c.before.before.compare.ensures)
+returns c = ap is_equal (sym c.enum_told.given.1 ∙ c.before.before.compare.ensures)
 
-returns-2 : tie.Need-returns-2
-returns-2 c = ap isEqual (sym c.enum-told2.given.1 ∙ c.before.before.compare.ensures)
+returns_2 : tie.Need-returns-2
+returns_2 c = ap is_equal (sym c.enum-told2.given.1 ∙ c.before.before.compare.ensures)
 
-returns-3 : tie.Need-returns-3
-returns-3 c = ap isEqual (sym c.enum-told3.given.1 ∙ c.before.before.compare.ensures)
+returns_3 : tie.Need-returns-3
+returns_3 c = ap is_equal (sym c.enum-told3.given.1 ∙ c.before.before.compare.ensures)
 
 pub same_spec : {M : Type 1} → statement M
 same_spec =
     tie.close
-    (tie.spec compare-requires enum_told enum-told-2 enum-told-3 returns returns-2 returns-3)
+    (tie.spec compare_requires enum_told enum_told_2 enum_told_3 returns returns_2 returns_3)

@@ -7,20 +7,20 @@ use Rattle.octets.proofs.Places.{store_two}
 use Rattle.octets.proofs.store64.Statement.{statement}
 use Rattle.octets.proofs.store64.Tie as tie
 
-cast-store32 : tie.Need-overflow-cast-store32
-cast-store32 c = search rules
+cast_store32 : tie.Need-overflow-cast-store32
+cast_store32 c = search rules
 
-store32-requires : tie.Need-store32-requires
-store32-requires c κs = search rules
+store32_requires : tie.Need-store32-requires
+store32_requires c κs = search rules
 
-add-store32 : tie.Need-overflow-add-store32
-add-store32 c = search rules
+add_store32 : tie.Need-overflow-add-store32
+add_store32 c = search rules
 
-cast-store32-2 : tie.Need-overflow-cast-store32-2
-cast-store32-2 c = search rules
+cast_store32_2 : tie.Need-overflow-cast-store32-2
+cast_store32_2 c = search rules
 
-store32-requires-2 : tie.Need-store32-requires-2
-store32-requires-2 c κs = search rules
+store32_requires_2 : tie.Need-store32-requires-2
+store32_requires_2 c κs = search rules
 
 same_length : tie.Need-same-length
 same_length c = search rules
@@ -30,14 +30,14 @@ returns c =
     let a = c.before.before.before.before.before.before.before.before.before.args in
     store_two a.at 4 4 a.v _ _ a.s.now _ _ (omega arith) refl (bytes_of_mod 4 a.v) c.before.before.before.before.before.before.store32.ensures c.before.before.store322.ensures
 
-pub store64-spec : {M : Type 1} → statement M
-store64-spec =
+pub store64_spec : {M : Type 1} → statement M
+store64_spec =
     tie.close
     (tie.spec
-    cast-store32
-    store32-requires
-    add-store32
-    cast-store32-2
-    store32-requires-2
+    cast_store32
+    store32_requires
+    add_store32
+    cast_store32_2
+    store32_requires_2
     same_length
     returns)

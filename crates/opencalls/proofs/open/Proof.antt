@@ -1,113 +1,113 @@
 -- 20, 3, or what the plan says: a number, the stored volume, or the new one, which is stored.
 use Rattle.std.proofs.Common.{sym, ◌∙◌, rules}
 use borrow.Author.Tests.{not-true, not-false}
-use Rattle.viewcalls.proofs.Ends.{no-volumes, no-commits}
+use Rattle.viewcalls.proofs.Ends.{no_volumes, no_commits}
 use Rattle.opencalls.specs.Opens.{asked, spares}
-use Rattle.opencalls.proofs.Ends.{unchanged, wrong_size, open-refused, stored-inside, open-stored, new-fits, open-new}
+use Rattle.opencalls.proofs.Ends.{unchanged, wrong_size, open_refused, stored_inside, open_stored, new_fits, open_new}
 use Rattle.opencalls.proofs.open.Statement.{statement}
 use Rattle.opencalls.proofs.open.Tie as tie
 
-volumes-formed-requires : tie.Need-volumes-formed-requires
-volumes-formed-requires c κs = search rules
+volumes_formed_requires : tie.Need-volumes-formed-requires
+volumes_formed_requires c κs = search rules
 
 same_length : tie.Need-same-length
 same_length c = search rules
 
 returns : tie.Need-returns
-returns c = unchanged c.before.before.before.before.before.before.args.volumes.now c.before.before.before.before.before.before.args.out.now _ 20 (no-volumes c.before.before.before.before.before.before.args.volumes.now c.before.before.before.before.before.before.args.commits.now _ (sym c.before.volumes-formed.ensures ∙ not-true _ c.if1.true))
+returns c = unchanged c.before.before.before.before.before.before.args.volumes.now c.before.before.before.before.before.before.args.out.now _ 20 (no_volumes c.before.before.before.before.before.before.args.volumes.now c.before.before.before.before.before.before.args.commits.now _ (sym c.before.volumes_formed.ensures ∙ not-true _ c.if1.true))
 
-commits-formed-requires : tie.Need-commits-formed-requires
-commits-formed-requires c κs = search rules
+commits_formed_requires : tie.Need-commits-formed-requires
+commits_formed_requires c κs = search rules
 
-same-length-2 : tie.Need-same-length-2
-same-length-2 c = search rules
+same_length_2 : tie.Need-same-length-2
+same_length_2 c = search rules
 
-returns-2 : tie.Need-returns-2
-returns-2 c = unchanged c.before.before.before.before.before.before.before.before.args.volumes.now c.before.before.before.before.before.before.before.before.args.out.now _ 20 (no-commits c.before.before.before.before.before.before.before.before.args.volumes.now c.before.before.before.before.before.before.before.before.args.commits.now _ (sym c.before.commits-formed.ensures ∙ not-true _ c.if2.true))
+returns_2 : tie.Need-returns-2
+returns_2 c = unchanged c.before.before.before.before.before.before.before.before.args.volumes.now c.before.before.before.before.before.before.before.before.args.out.now _ 20 (no_commits c.before.before.before.before.before.before.before.before.args.volumes.now c.before.before.before.before.before.before.before.before.args.commits.now _ (sym c.before.commits_formed.ensures ∙ not-true _ c.if2.true))
 
-same-length-3 : tie.Need-same-length-3
-same-length-3 c = search rules
+same_length_3 : tie.Need-same-length-3
+same_length_3 c = search rules
 
-returns-3 : tie.Need-returns-3
-returns-3 c = wrong_size c.before.before.before.before.before.before.before.before.before.args.volumes.now c.before.before.before.before.before.before.before.before.before.args.commits.now c.before.before.before.before.before.before.before.before.before.args.out.now (asked c.before.before.before.before.before.before.before.before.before.args.vid c.before.before.before.before.before.before.before.before.before.args.local c.before.before.before.before.before.before.before.before.before.args.remote) (spares c.before.before.before.before.before.before.before.before.before.args.vid c.before.before.before.before.before.before.before.before.before.args.local c.before.before.before.before.before.before.before.before.before.args.remote) (sym c.before.before.before.before.volumes-formed.ensures ∙ not-false _ c.before.before.before.if1.false) (sym c.before.before.commits-formed.ensures ∙ not-false _ c.before.if2.false) c.if3.true
+returns_3 : tie.Need-returns-3
+returns_3 c = wrong_size c.before.before.before.before.before.before.before.before.before.args.volumes.now c.before.before.before.before.before.before.before.before.before.args.commits.now c.before.before.before.before.before.before.before.before.before.args.out.now (asked c.before.before.before.before.before.before.before.before.before.args.vid c.before.before.before.before.before.before.before.before.before.args.local c.before.before.before.before.before.before.before.before.before.args.remote) (spares c.before.before.before.before.before.before.before.before.before.args.vid c.before.before.before.before.before.before.before.before.before.args.local c.before.before.before.before.before.before.before.before.before.args.remote) (sym c.before.before.before.before.volumes_formed.ensures ∙ not-false _ c.before.before.before.if1.false) (sym c.before.before.commits_formed.ensures ∙ not-false _ c.before.if2.false) c.if3.true
 
-open-plan-requires : tie.Need-open-plan-requires
-open-plan-requires c κs = ((sym c.before.before.before.before.before.volumes-formed.ensures ∙ not-false _ c.before.before.before.before.if1.false), (sym c.before.before.before.commits-formed.ensures ∙ not-false _ c.before.before.if2.false))
+open_plan_requires : tie.Need-open-plan-requires
+open_plan_requires c κs = ((sym c.before.before.before.before.before.volumes_formed.ensures ∙ not-false _ c.before.before.before.before.if1.false), (sym c.before.before.before.commits_formed.ensures ∙ not-false _ c.before.before.if2.false))
 
-enum-known-n : tie.Need-enum-known-n
-enum-known-n c = search rules
+enum_known_n : tie.Need-enum-known-n
+enum_known_n c = search rules
 
-enum-known-i : tie.Need-enum-known-i
-enum-known-i c = search rules
+enum_known_i : tie.Need-enum-known-i
+enum_known_i c = search rules
 
-volume-at-requires : tie.Need-volume-at-requires
-volume-at-requires c κs = ((sym c.before.before.before.before.before.before.before.before.before.before.before.volumes-formed.ensures ∙ not-false _ c.before.before.before.before.before.before.before.before.before.before.if1.false), stored-inside c.before.before.before.before.before.before.before.before.before.before.before.before.before.before.before.before.args.volumes.now c.before.before.before.before.before.before.before.before.before.before.before.before.before.before.before.before.args.commits.now c.before.before.before.before.before.before.before.before.before.before.before.before.before.before.before.before.args.out.now (asked c.before.before.before.before.before.before.before.before.before.before.before.before.before.before.before.before.args.vid c.before.before.before.before.before.before.before.before.before.before.before.before.before.before.before.before.args.local c.before.before.before.before.before.before.before.before.before.before.before.before.before.before.before.before.args.remote) (spares c.before.before.before.before.before.before.before.before.before.before.before.before.before.before.before.before.args.vid c.before.before.before.before.before.before.before.before.before.before.before.before.before.before.before.before.args.local c.before.before.before.before.before.before.before.before.before.before.before.before.before.before.before.before.args.remote) (sym c.before.before.before.before.before.before.before.before.before.before.before.volumes-formed.ensures ∙ not-false _ c.before.before.before.before.before.before.before.before.before.before.if1.false) (sym c.before.before.before.before.before.before.before.before.before.commits-formed.ensures ∙ not-false _ c.before.before.before.before.before.before.before.before.if2.false) c.before.before.before.before.before.before.before.if3.false c.before.before.before.before.before.open-plan.result c.before.before.before.before.before.open-plan.ensures _ c.before.before.before.i.given.1)
+volume_at_requires : tie.Need-volume-at-requires
+volume_at_requires c κs = ((sym c.before.before.before.before.before.before.before.before.before.before.before.volumes_formed.ensures ∙ not-false _ c.before.before.before.before.before.before.before.before.before.before.if1.false), stored_inside c.before.before.before.before.before.before.before.before.before.before.before.before.before.before.before.before.args.volumes.now c.before.before.before.before.before.before.before.before.before.before.before.before.before.before.before.before.args.commits.now c.before.before.before.before.before.before.before.before.before.before.before.before.before.before.before.before.args.out.now (asked c.before.before.before.before.before.before.before.before.before.before.before.before.before.before.before.before.args.vid c.before.before.before.before.before.before.before.before.before.before.before.before.before.before.before.before.args.local c.before.before.before.before.before.before.before.before.before.before.before.before.before.before.before.before.args.remote) (spares c.before.before.before.before.before.before.before.before.before.before.before.before.before.before.before.before.args.vid c.before.before.before.before.before.before.before.before.before.before.before.before.before.before.before.before.args.local c.before.before.before.before.before.before.before.before.before.before.before.before.before.before.before.before.args.remote) (sym c.before.before.before.before.before.before.before.before.before.before.before.volumes_formed.ensures ∙ not-false _ c.before.before.before.before.before.before.before.before.before.before.if1.false) (sym c.before.before.before.before.before.before.before.before.before.commits_formed.ensures ∙ not-false _ c.before.before.before.before.before.before.before.before.if2.false) c.before.before.before.before.before.before.before.if3.false c.before.before.before.before.before.open-plan.result c.before.before.before.before.before.open-plan.ensures _ c.before.before.before.i.given.1)
 
-put-out-requires : tie.Need-put-out-requires
-put-out-requires c κs = c.before.before.before.before.before.before.before.before.if3.false
+put_out_requires : tie.Need-put-out-requires
+put_out_requires c κs = c.before.before.before.before.before.before.before.before.if3.false
 
 enum_told : tie.Need-enum-told
 enum_told c = search rules
 
-new-volume-requires : tie.Need-new-volume-requires
-new-volume-requires c κs = (sym c.before.before.before.before.before.before.commits-formed.ensures ∙ not-false _ c.before.before.before.before.before.if2.false)
+new_volume_requires : tie.Need-new-volume-requires
+new_volume_requires c κs = (sym c.before.before.before.before.before.before.commits_formed.ensures ∙ not-false _ c.before.before.before.before.before.if2.false)
 
-put-volume-requires : tie.Need-put-volume-requires
-put-volume-requires c κs = (((sym c.before.before.before.before.before.before.before.before.before.before.volumes-formed.ensures ∙ not-false _ c.before.before.before.before.before.before.before.before.before.if1.false), c.before.new-volume.ensures.1), new-fits c.before.before.before.before.before.before.before.before.before.before.before.before.before.before.before.args.volumes.now c.before.before.before.before.before.before.before.before.before.before.before.before.before.before.before.args.commits.now c.before.before.before.before.before.before.before.before.before.before.before.before.before.before.before.args.out.now (asked c.before.before.before.before.before.before.before.before.before.before.before.before.before.before.before.args.vid c.before.before.before.before.before.before.before.before.before.before.before.before.before.before.before.args.local c.before.before.before.before.before.before.before.before.before.before.before.before.before.before.before.args.remote) (spares c.before.before.before.before.before.before.before.before.before.before.before.before.before.before.before.args.vid c.before.before.before.before.before.before.before.before.before.before.before.before.before.before.before.args.local c.before.before.before.before.before.before.before.before.before.before.before.before.before.before.before.args.remote) (sym c.before.before.before.before.before.before.before.before.before.before.volumes-formed.ensures ∙ not-false _ c.before.before.before.before.before.before.before.before.before.if1.false) (sym c.before.before.before.before.before.before.before.before.commits-formed.ensures ∙ not-false _ c.before.before.before.before.before.before.before.if2.false) c.before.before.before.before.before.before.if3.false c.before.before.before.before.open-plan.result c.before.before.before.before.open-plan.ensures c.before.before.enum_told.given.1 c.before.new-volume.result c.before.new-volume.ensures.0)
+put_volume_requires : tie.Need-put-volume-requires
+put_volume_requires c κs = (((sym c.before.before.before.before.before.before.before.before.before.before.volumes_formed.ensures ∙ not-false _ c.before.before.before.before.before.before.before.before.before.if1.false), c.before.new-volume.ensures.1), new_fits c.before.before.before.before.before.before.before.before.before.before.before.before.before.before.before.args.volumes.now c.before.before.before.before.before.before.before.before.before.before.before.before.before.before.before.args.commits.now c.before.before.before.before.before.before.before.before.before.before.before.before.before.before.before.args.out.now (asked c.before.before.before.before.before.before.before.before.before.before.before.before.before.before.before.args.vid c.before.before.before.before.before.before.before.before.before.before.before.before.before.before.before.args.local c.before.before.before.before.before.before.before.before.before.before.before.before.before.before.before.args.remote) (spares c.before.before.before.before.before.before.before.before.before.before.before.before.before.before.before.args.vid c.before.before.before.before.before.before.before.before.before.before.before.before.before.before.before.args.local c.before.before.before.before.before.before.before.before.before.before.before.before.before.before.before.args.remote) (sym c.before.before.before.before.before.before.before.before.before.before.volumes_formed.ensures ∙ not-false _ c.before.before.before.before.before.before.before.before.before.if1.false) (sym c.before.before.before.before.before.before.before.before.commits_formed.ensures ∙ not-false _ c.before.before.before.before.before.before.before.if2.false) c.before.before.before.before.before.before.if3.false c.before.before.before.before.open-plan.result c.before.before.before.before.open-plan.ensures c.before.before.enum_told.given.1 c.before.new-volume.result c.before.new-volume.ensures.0)
 
-put-out-requires-2 : tie.Need-put-out-requires-2
-put-out-requires-2 c κs = c.before.before.before.before.before.before.before.before.before.before.if3.false
+put_out_requires_2 : tie.Need-put-out-requires-2
+put_out_requires_2 c κs = c.before.before.before.before.before.before.before.before.before.before.if3.false
 
-same-length-4 : tie.Need-same-length-4
-same-length-4 c = search rules
+same_length_4 : tie.Need-same-length-4
+same_length_4 c = search rules
 
-returns-4 : tie.Need-returns-4
-returns-4 c = open-refused c.before.before.before.before.before.before.before.before.before.before.before.before.before.before.args.volumes.now c.before.before.before.before.before.before.before.before.before.before.before.before.before.before.args.commits.now c.before.before.before.before.before.before.before.before.before.before.before.before.before.before.args.out.now (asked c.before.before.before.before.before.before.before.before.before.before.before.before.before.before.args.vid c.before.before.before.before.before.before.before.before.before.before.before.before.before.before.args.local c.before.before.before.before.before.before.before.before.before.before.before.before.before.before.args.remote) (spares c.before.before.before.before.before.before.before.before.before.before.before.before.before.before.args.vid c.before.before.before.before.before.before.before.before.before.before.before.before.before.before.args.local c.before.before.before.before.before.before.before.before.before.before.before.before.before.before.args.remote) (sym c.before.before.before.before.before.before.before.before.before.volumes-formed.ensures ∙ not-false _ c.before.before.before.before.before.before.before.before.if1.false) (sym c.before.before.before.before.before.before.before.commits-formed.ensures ∙ not-false _ c.before.before.before.before.before.before.if2.false) c.before.before.before.before.before.if3.false c.before.before.before.open-plan.result c.before.before.before.open-plan.ensures _ c.before.n.given.1
+returns_4 : tie.Need-returns-4
+returns_4 c = open_refused c.before.before.before.before.before.before.before.before.before.before.before.before.before.before.args.volumes.now c.before.before.before.before.before.before.before.before.before.before.before.before.before.before.args.commits.now c.before.before.before.before.before.before.before.before.before.before.before.before.before.before.args.out.now (asked c.before.before.before.before.before.before.before.before.before.before.before.before.before.before.args.vid c.before.before.before.before.before.before.before.before.before.before.before.before.before.before.args.local c.before.before.before.before.before.before.before.before.before.before.before.before.before.before.args.remote) (spares c.before.before.before.before.before.before.before.before.before.before.before.before.before.before.args.vid c.before.before.before.before.before.before.before.before.before.before.before.before.before.before.args.local c.before.before.before.before.before.before.before.before.before.before.before.before.before.before.args.remote) (sym c.before.before.before.before.before.before.before.before.before.volumes_formed.ensures ∙ not-false _ c.before.before.before.before.before.before.before.before.if1.false) (sym c.before.before.before.before.before.before.before.commits_formed.ensures ∙ not-false _ c.before.before.before.before.before.before.if2.false) c.before.before.before.before.before.if3.false c.before.before.before.open-plan.result c.before.before.before.open-plan.ensures _ c.before.n.given.1
 
-same-length-5 : tie.Need-same-length-5
-same-length-5 c = search rules
+same_length_5 : tie.Need-same-length-5
+same_length_5 c = search rules
 
-same-length-6 : tie.Need-same-length-6
-same-length-6 c = search rules
+same_length_6 : tie.Need-same-length-6
+same_length_6 c = search rules
 
-returns-5 : tie.Need-returns-5
-returns-5 c = open-stored c.before.before.before.before.before.before.before.before.before.before.before.before.before.before.before.before.before.before.before.before.args.volumes.now c.before.before.before.before.before.before.before.before.before.before.before.before.before.before.before.before.before.before.before.before.args.commits.now c.before.before.before.before.before.before.before.before.before.before.before.before.before.before.before.before.before.before.before.before.args.out.now (asked c.before.before.before.before.before.before.before.before.before.before.before.before.before.before.before.before.before.before.before.before.args.vid c.before.before.before.before.before.before.before.before.before.before.before.before.before.before.before.before.before.before.before.before.args.local c.before.before.before.before.before.before.before.before.before.before.before.before.before.before.before.before.before.before.before.before.args.remote) (spares c.before.before.before.before.before.before.before.before.before.before.before.before.before.before.before.before.before.before.before.before.args.vid c.before.before.before.before.before.before.before.before.before.before.before.before.before.before.before.before.before.before.before.before.args.local c.before.before.before.before.before.before.before.before.before.before.before.before.before.before.before.before.before.before.before.before.args.remote) (sym c.before.before.before.before.before.before.before.before.before.before.before.before.before.before.before.volumes-formed.ensures ∙ not-false _ c.before.before.before.before.before.before.before.before.before.before.before.before.before.before.if1.false) (sym c.before.before.before.before.before.before.before.before.before.before.before.before.before.commits-formed.ensures ∙ not-false _ c.before.before.before.before.before.before.before.before.before.before.before.before.if2.false) c.before.before.before.before.before.before.before.before.before.before.before.if3.false c.before.before.before.before.before.before.before.before.before.open-plan.result c.before.before.before.before.before.before.before.before.before.open-plan.ensures _ c.before.before.before.before.before.before.before.i.given.1 (λ j. (c.before.before.before.before.before.before.before.before.before.before.before.before.before.before.before.before.before.before.before.slice-known.given j).fits) c.before.before.before.volume-at.result c.before.before.before.volume-at.ensures _ c.before.before.put-out.ensures
+returns_5 : tie.Need-returns-5
+returns_5 c = open_stored c.before.before.before.before.before.before.before.before.before.before.before.before.before.before.before.before.before.before.before.before.args.volumes.now c.before.before.before.before.before.before.before.before.before.before.before.before.before.before.before.before.before.before.before.before.args.commits.now c.before.before.before.before.before.before.before.before.before.before.before.before.before.before.before.before.before.before.before.before.args.out.now (asked c.before.before.before.before.before.before.before.before.before.before.before.before.before.before.before.before.before.before.before.before.args.vid c.before.before.before.before.before.before.before.before.before.before.before.before.before.before.before.before.before.before.before.before.args.local c.before.before.before.before.before.before.before.before.before.before.before.before.before.before.before.before.before.before.before.before.args.remote) (spares c.before.before.before.before.before.before.before.before.before.before.before.before.before.before.before.before.before.before.before.before.args.vid c.before.before.before.before.before.before.before.before.before.before.before.before.before.before.before.before.before.before.before.before.args.local c.before.before.before.before.before.before.before.before.before.before.before.before.before.before.before.before.before.before.before.before.args.remote) (sym c.before.before.before.before.before.before.before.before.before.before.before.before.before.before.before.volumes_formed.ensures ∙ not-false _ c.before.before.before.before.before.before.before.before.before.before.before.before.before.before.if1.false) (sym c.before.before.before.before.before.before.before.before.before.before.before.before.before.commits_formed.ensures ∙ not-false _ c.before.before.before.before.before.before.before.before.before.before.before.before.if2.false) c.before.before.before.before.before.before.before.before.before.before.before.if3.false c.before.before.before.before.before.before.before.before.before.open-plan.result c.before.before.before.before.before.before.before.before.before.open-plan.ensures _ c.before.before.before.before.before.before.before.i.given.1 (λ j. (c.before.before.before.before.before.before.before.before.before.before.before.before.before.before.before.before.before.before.before.slice-known.given j).fits) c.before.before.before.volume-at.result c.before.before.before.volume-at.ensures _ c.before.before.put-out.ensures
 
-same-length-7 : tie.Need-same-length-7
-same-length-7 c = search rules
+same_length_7 : tie.Need-same-length-7
+same_length_7 c = search rules
 
-same-length-8 : tie.Need-same-length-8
-same-length-8 c = search rules
+same_length_8 : tie.Need-same-length-8
+same_length_8 c = search rules
 
-returns-6 : tie.Need-returns-6
-returns-6 c = open-new c.before.before.before.before.before.before.before.before.before.before.before.before.before.before.before.before.before.before.before.before.before.before.args.volumes.now c.before.before.before.before.before.before.before.before.before.before.before.before.before.before.before.before.before.before.before.before.before.before.args.commits.now c.before.before.before.before.before.before.before.before.before.before.before.before.before.before.before.before.before.before.before.before.before.before.args.out.now (asked c.before.before.before.before.before.before.before.before.before.before.before.before.before.before.before.before.before.before.before.before.before.before.args.vid c.before.before.before.before.before.before.before.before.before.before.before.before.before.before.before.before.before.before.before.before.before.before.args.local c.before.before.before.before.before.before.before.before.before.before.before.before.before.before.before.before.before.before.before.before.before.before.args.remote) (spares c.before.before.before.before.before.before.before.before.before.before.before.before.before.before.before.before.before.before.before.before.before.before.args.vid c.before.before.before.before.before.before.before.before.before.before.before.before.before.before.before.before.before.before.before.before.before.before.args.local c.before.before.before.before.before.before.before.before.before.before.before.before.before.before.before.before.before.before.before.before.before.before.args.remote) (sym c.before.before.before.before.before.before.before.before.before.before.before.before.before.before.before.before.before.volumes-formed.ensures ∙ not-false _ c.before.before.before.before.before.before.before.before.before.before.before.before.before.before.before.before.if1.false) (sym c.before.before.before.before.before.before.before.before.before.before.before.before.before.before.before.commits-formed.ensures ∙ not-false _ c.before.before.before.before.before.before.before.before.before.before.before.before.before.before.if2.false) c.before.before.before.before.before.before.before.before.before.before.before.before.before.if3.false c.before.before.before.before.before.before.before.before.before.before.before.open-plan.result c.before.before.before.before.before.before.before.before.before.before.before.open-plan.ensures c.before.before.before.before.before.before.before.before.before.enum_told.given.1 c.before.before.before.before.before.before.before.before.new-volume.result c.before.before.before.before.before.before.before.before.new-volume.ensures.0 _ _ c.before.before.before.before.before.before.put-volume.ensures c.before.before.put-out2.ensures
+returns_6 : tie.Need-returns-6
+returns_6 c = open_new c.before.before.before.before.before.before.before.before.before.before.before.before.before.before.before.before.before.before.before.before.before.before.args.volumes.now c.before.before.before.before.before.before.before.before.before.before.before.before.before.before.before.before.before.before.before.before.before.before.args.commits.now c.before.before.before.before.before.before.before.before.before.before.before.before.before.before.before.before.before.before.before.before.before.before.args.out.now (asked c.before.before.before.before.before.before.before.before.before.before.before.before.before.before.before.before.before.before.before.before.before.before.args.vid c.before.before.before.before.before.before.before.before.before.before.before.before.before.before.before.before.before.before.before.before.before.before.args.local c.before.before.before.before.before.before.before.before.before.before.before.before.before.before.before.before.before.before.before.before.before.before.args.remote) (spares c.before.before.before.before.before.before.before.before.before.before.before.before.before.before.before.before.before.before.before.before.before.before.args.vid c.before.before.before.before.before.before.before.before.before.before.before.before.before.before.before.before.before.before.before.before.before.before.args.local c.before.before.before.before.before.before.before.before.before.before.before.before.before.before.before.before.before.before.before.before.before.before.args.remote) (sym c.before.before.before.before.before.before.before.before.before.before.before.before.before.before.before.before.before.volumes_formed.ensures ∙ not-false _ c.before.before.before.before.before.before.before.before.before.before.before.before.before.before.before.before.if1.false) (sym c.before.before.before.before.before.before.before.before.before.before.before.before.before.before.before.commits_formed.ensures ∙ not-false _ c.before.before.before.before.before.before.before.before.before.before.before.before.before.before.if2.false) c.before.before.before.before.before.before.before.before.before.before.before.before.before.if3.false c.before.before.before.before.before.before.before.before.before.before.before.open-plan.result c.before.before.before.before.before.before.before.before.before.before.before.open-plan.ensures c.before.before.before.before.before.before.before.before.before.enum_told.given.1 c.before.before.before.before.before.before.before.before.new-volume.result c.before.before.before.before.before.before.before.before.new-volume.ensures.0 _ _ c.before.before.before.before.before.before.put-volume.ensures c.before.before.put-out2.ensures
 
 pub open_spec : {M : Type 1} → statement M
 open_spec =
     tie.close
     (tie.spec
-    volumes-formed-requires
+    volumes_formed_requires
     same_length
     returns
-    commits-formed-requires
-    same-length-2
-    returns-2
-    same-length-3
-    returns-3
-    open-plan-requires
-    enum-known-n
-    enum-known-i
-    volume-at-requires
-    put-out-requires
+    commits_formed_requires
+    same_length_2
+    returns_2
+    same_length_3
+    returns_3
+    open_plan_requires
+    enum_known_n
+    enum_known_i
+    volume_at_requires
+    put_out_requires
     enum_told
-    new-volume-requires
-    put-volume-requires
-    put-out-requires-2
-    same-length-4
-    returns-4
-    same-length-5
-    same-length-6
-    returns-5
-    same-length-7
-    same-length-8
-    returns-6)
+    new_volume_requires
+    put_volume_requires
+    put_out_requires_2
+    same_length_4
+    returns_4
+    same_length_5
+    same_length_6
+    returns_5
+    same_length_7
+    same_length_8
+    returns_6)

@@ -5,11 +5,11 @@ use Rattle.pageset.specs.declared.SetAnswer.{SetAnswer}
 use Rattle.pagecalls.proofs.not_inserted.Statement.{statement}
 use Rattle.pagecalls.proofs.not_inserted.Tie as tie
 
-empty-requires : tie.Need-empty-requires
-empty-requires c κs = search rules
+empty_requires : tie.Need-empty-requires
+empty_requires c κs = search rules
 
 returns : tie.Need-returns
 returns c = (ap (λ (s : PageSet). record { code = c.before.args.code; set = s }) c.empty.ensures, refl)
 
-pub not-inserted-spec : {M : Type 1} → statement M
-not-inserted-spec = tie.close (tie.spec empty-requires returns)
+pub not_inserted_spec : {M : Type 1} → statement M
+not_inserted_spec = tie.close (tie.spec empty_requires returns)

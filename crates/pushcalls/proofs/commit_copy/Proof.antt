@@ -5,18 +5,18 @@ use Rattle.octets.specs.Bytes.{part}
 use Rattle.pushcalls.proofs.commit_copy.Statement.{statement}
 use Rattle.pushcalls.proofs.commit_copy.Tie as tie
 
-row-requires : tie.Need-row-requires
-row-requires c κs = search rules
+row_requires : tie.Need-row-requires
+row_requires c κs = search rules
 
-slice-aggregate-load-all : tie.Need-slice-aggregate-load-all
-slice-aggregate-load-all c = search rules
+slice_aggregate_load_all : tie.Need-slice-aggregate-load-all
+slice_aggregate_load_all c = search rules
 
-load-all-requires : tie.Need-load-all-requires
-load-all-requires c κs = search rules
+load_all_requires : tie.Need-load-all-requires
+load_all_requires c κs = search rules
 
 returns : tie.Need-returns
 returns c = c.before.load-all.ensures ∙ ap₂ (λ (a n : ℕ). part a n c.before.before.before.before.before.args.t.now) c.before.before.before.row.ensures.0 (length-replicate {A = ℕ} 722 0)
 
-pub commit-copy-spec : {M : Type 1} → statement M
-commit-copy-spec =
-    tie.close (tie.spec row-requires slice-aggregate-load-all load-all-requires returns)
+pub commit_copy_spec : {M : Type 1} → statement M
+commit_copy_spec =
+    tie.close (tie.spec row_requires slice_aggregate_load_all load_all_requires returns)

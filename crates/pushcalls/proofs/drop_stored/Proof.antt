@@ -2,38 +2,38 @@
 use Rattle.std.proofs.Common.{refl, ap, ◌∙◌, rules}
 use mathlib.Core.Option.{none}
 use Rattle.rules.specs.Records.{Volume}
-use Rattle.rules.specs.Push.{withPending}
-use Rattle.volume.specs.Volumes.{volumeSays}
-use Rattle.rules.proofs.Kept.{pending-form}
-use Rattle.pushcalls.proofs.Ends.{inside, read-says, ready-to-store, dropped-bytes}
+use Rattle.rules.specs.Push.{with_pending}
+use Rattle.volume.specs.Volumes.{volume_says}
+use Rattle.rules.proofs.Kept.{pending_form_lem}
+use Rattle.pushcalls.proofs.Ends.{inside, read_says, ready_to_store, dropped_bytes}
 use Rattle.pushcalls.proofs.drop_stored.Statement.{statement}
 use Rattle.pushcalls.proofs.drop_stored.Tie as tie
 
-volume-at-requires : tie.Need-volume-at-requires
-volume-at-requires c κs = (c.before.before.requires.0, inside c.before.before.args.volumes.now c.before.before.args.i _ c.before.before.requires.1.1)
+volume_at_requires : tie.Need-volume-at-requires
+volume_at_requires c κs = (c.before.before.requires.0, inside c.before.before.args.volumes.now c.before.before.args.i _ c.before.before.requires.1.1)
 
-zero-requires : tie.Need-zero-requires
-zero-requires c κs = search rules
+zero_requires : tie.Need-zero-requires
+zero_requires c κs = search rules
 
-with-pending-commit-requires : tie.Need-with-pending-commit-requires
-with-pending-commit-requires c κs = search rules
+with_pending_commit_requires : tie.Need-with-pending-commit-requires
+with_pending_commit_requires c κs = search rules
 
-store-volume-requires : tie.Need-store-volume-requires
-store-volume-requires c κs = ready-to-store c.before.before.before.before.before.before.args.volumes.now c.before.before.before.before.before.before.args.i _ c.before.before.before.before.before.before.requires.1.1 c.before.before.before.before.before.before.requires.0 c.with-pending-commit.result _ (ap volumeSays c.with-pending-commit.ensures ∙ ap (λ (z : Volume). withPending z none) (read-says c.before.before.before.before.before.before.args.volumes.now c.before.before.before.before.before.before.args.i _ c.before.before.before.before.before.before.requires.1.1 _ c.before.before.before.volume-at.ensures)) refl (pending-form _ none c.before.before.before.before.before.before.requires.1.1.form refl)
+store_volume_requires : tie.Need-store-volume-requires
+store_volume_requires c κs = ready_to_store c.before.before.before.before.before.before.args.volumes.now c.before.before.before.before.before.before.args.i _ c.before.before.before.before.before.before.requires.1.1 c.before.before.before.before.before.before.requires.0 c.with-pending-commit.result _ (ap volume_says c.with-pending-commit.ensures ∙ ap (λ (z : Volume). with_pending z none) (read_says c.before.before.before.before.before.before.args.volumes.now c.before.before.before.before.before.before.args.i _ c.before.before.before.before.before.before.requires.1.1 _ c.before.before.before.volume-at.ensures)) refl (pending_form_lem _ none c.before.before.before.before.before.before.requires.1.1.form refl)
 
 same_length : tie.Need-same-length
 same_length c = search rules
 
 returns : tie.Need-returns
-returns c = dropped-bytes c.before.before.before.before.before.before.before.before.before.args.volumes.now c.before.before.before.before.before.before.before.before.before.args.i _ _ _ c.before.before.before.before.before.before.before.before.before.requires.1.1.there (ap volumeSays c.before.before.before.with-pending-commit.ensures ∙ ap (λ (z : Volume). withPending z none) (read-says c.before.before.before.before.before.before.before.before.before.args.volumes.now c.before.before.before.before.before.before.before.before.before.args.i _ c.before.before.before.before.before.before.before.before.before.requires.1.1 _ c.before.before.before.before.before.before.volume-at.ensures)) c.before.before.store-volume.ensures
+returns c = dropped_bytes c.before.before.before.before.before.before.before.before.before.args.volumes.now c.before.before.before.before.before.before.before.before.before.args.i _ _ _ c.before.before.before.before.before.before.before.before.before.requires.1.1.there (ap volume_says c.before.before.before.with-pending-commit.ensures ∙ ap (λ (z : Volume). with_pending z none) (read_says c.before.before.before.before.before.before.before.before.before.args.volumes.now c.before.before.before.before.before.before.before.before.before.args.i _ c.before.before.before.before.before.before.before.before.before.requires.1.1 _ c.before.before.before.before.before.before.volume-at.ensures)) c.before.before.store-volume.ensures
 
-pub drop-stored-spec : {M : Type 1} → statement M
-drop-stored-spec =
+pub drop_stored_spec : {M : Type 1} → statement M
+drop_stored_spec =
     tie.close
     (tie.spec
-    volume-at-requires
-    zero-requires
-    with-pending-commit-requires
-    store-volume-requires
+    volume_at_requires
+    zero_requires
+    with_pending_commit_requires
+    store_volume_requires
     same_length
     returns)

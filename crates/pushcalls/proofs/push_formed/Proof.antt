@@ -2,23 +2,23 @@
 use Rattle.std.proofs.Common.{sym, ◌∙◌, rules}
 use borrow.Author.Tests.{not-true, not-false}
 use Rattle.layout.proofs.PlaceLaws.{stops, goes_on}
-use Rattle.pushcalls.specs.Pushes.{pushOk}
+use Rattle.pushcalls.specs.Pushes.{push_ok}
 use Rattle.pushcalls.proofs.push_formed.Statement.{statement}
 use Rattle.pushcalls.proofs.push_formed.Tie as tie
 
-volumes-formed-requires : tie.Need-volumes-formed-requires
-volumes-formed-requires c κs = search rules
+volumes_formed_requires : tie.Need-volumes-formed-requires
+volumes_formed_requires c κs = search rules
 
 returns : tie.Need-returns
-unfolding pushOk
-returns c = stops _ (sym c.before.volumes-formed.ensures ∙ not-true _ c.if1.true)
+unfolding push_ok
+returns c = stops _ (sym c.before.volumes_formed.ensures ∙ not-true _ c.if1.true)
 
-logs-formed-requires : tie.Need-logs-formed-requires
-logs-formed-requires c κs = search rules
+logs_formed_requires : tie.Need-logs-formed-requires
+logs_formed_requires c κs = search rules
 
-returns-2 : tie.Need-returns-2
-unfolding pushOk
-returns-2 c = goes_on _ _ (sym c.before.before.volumes-formed.ensures ∙ not-false _ c.before.if1.false) c.logs-formed.ensures
+returns_2 : tie.Need-returns-2
+unfolding push_ok
+returns_2 c = goes_on _ _ (sym c.before.before.volumes_formed.ensures ∙ not-false _ c.before.if1.false) c.logs_formed.ensures
 
-pub push-formed-spec : {M : Type 1} → statement M
-push-formed-spec = tie.close (tie.spec volumes-formed-requires returns logs-formed-requires returns-2)
+pub push_formed_spec : {M : Type 1} → statement M
+push_formed_spec = tie.close (tie.spec volumes_formed_requires returns logs_formed_requires returns_2)

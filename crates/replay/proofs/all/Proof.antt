@@ -4,63 +4,63 @@ use native.Mathlib.Omega.{arith}
 use Rattle.replay.proofs.all.Statement.{statement}
 use Rattle.replay.proofs.all.Tie as tie
 
-abbrev invariant-loop : tie.invariant-loop
-invariant-loop fd sums₀ number₀ named₀ sums number named = number ≤ 1000000
+abbrev invariant_loop : tie.invariant_loop
+invariant_loop fd sums₀ number₀ named₀ sums number named = number ≤ 1000000
 
-abbrev decreases-loop : tie.decreases-loop
-decreases-loop fd sums₀ number₀ named₀ sums number named = 1000000 - number
+abbrev decreases_loop : tie.decreases_loop
+decreases_loop fd sums₀ number₀ named₀ sums number named = 1000000 - number
 
-none-requires : tie.Need-none-requires invariant-loop decreases-loop
-none-requires c κs = tt
+none_requires : tie.Need-none-requires invariant_loop decreases_loop
+none_requires c κs = tt
 
-loop-holds : tie.Need-loop-init invariant-loop decreases-loop
-loop-holds c = omega arith
+loop_holds : tie.Need-loop-init invariant_loop decreases_loop
+loop_holds c = omega arith
 
-call-requires : tie.Need-call-requires invariant-loop decreases-loop
-call-requires c κs = tt
+call_requires : tie.Need-call-requires invariant_loop decreases_loop
+call_requires c κs = tt
 
-returns : tie.Need-returns invariant-loop decreases-loop
+returns : tie.Need-returns invariant_loop decreases_loop
 returns c = tt
 
-add-number : tie.Need-overflow-add-number invariant-loop decreases-loop
-add-number c = omega arith
+add_number : tie.Need-overflow-add-number invariant_loop decreases_loop
+add_number c = omega arith
 
-same-requires : tie.Need-same-requires invariant-loop decreases-loop
-same-requires c κs = tt
+same_requires : tie.Need-same-requires invariant_loop decreases_loop
+same_requires c κs = tt
 
-tell-requires : tie.Need-tell-requires invariant-loop decreases-loop
-tell-requires c κs = tt
+tell_requires : tie.Need-tell-requires invariant_loop decreases_loop
+tell_requires c κs = tt
 
-add-named : tie.Need-overflow-add-named invariant-loop decreases-loop
-add-named c = omega arith
+add_named : tie.Need-overflow-add-named invariant_loop decreases_loop
+add_named c = omega arith
 
-counted-requires : tie.Need-counted-requires invariant-loop decreases-loop
-counted-requires c κs = tt
+counted_requires : tie.Need-counted-requires invariant_loop decreases_loop
+counted_requires c κs = tt
 
-loop-less : tie.Need-loop-smaller invariant-loop decreases-loop
-loop-less c = omega arith
+loop_less : tie.Need-loop-smaller invariant_loop decreases_loop
+loop_less c = omega arith
 
-loop-again : tie.Need-loop-preserved invariant-loop decreases-loop
-loop-again c = omega arith
+loop_again : tie.Need-loop-preserved invariant_loop decreases_loop
+loop_again c = omega arith
 
-returns-2 : tie.Need-returns-2 invariant-loop decreases-loop
-returns-2 c = tt
+returns_2 : tie.Need-returns-2 invariant_loop decreases_loop
+returns_2 c = tt
 
-pub all-spec : {M : Type 1} → statement M
-all-spec =
+pub all_spec : {M : Type 1} → statement M
+all_spec =
     tie.close
     (tie.spec
-    invariant-loop
-    decreases-loop
-    none-requires
-    loop-holds
-    call-requires
+    invariant_loop
+    decreases_loop
+    none_requires
+    loop_holds
+    call_requires
     returns
-    add-number
-    same-requires
-    tell-requires
-    add-named
-    counted-requires
-    loop-less
-    loop-again
-    returns-2)
+    add_number
+    same_requires
+    tell_requires
+    add_named
+    counted_requires
+    loop_less
+    loop_again
+    returns_2)

@@ -5,20 +5,20 @@ use Rattle.octets.proofs.Places.{part_slice}
 use Rattle.resultlists.proofs.copy.Statement.{statement}
 use Rattle.resultlists.proofs.copy.Tie as tie
 
-add-end : tie.Need-overflow-add-end
-add-end c = search rules
+add_end : tie.Need-overflow-add-end
+add_end c = search rules
 
-sub-store-all : tie.Need-overflow-sub-store-all
-sub-store-all c = search rules
+sub_store_all : tie.Need-overflow-sub-store-all
+sub_store_all c = search rules
 
-part-store-all-start : tie.Need-slice-bounds-store-all-start
-part-store-all-start c = search rules
+part_store_all_start : tie.Need-slice-bounds-store-all-start
+part_store_all_start c = search rules
 
-part-store-all-end : tie.Need-slice-bounds-store-all-end
-part-store-all-end c = search rules
+part_store_all_end : tie.Need-slice-bounds-store-all-end
+part_store_all_end c = search rules
 
-store-all-requires : tie.Need-store-all-requires
-store-all-requires c κs = search rules
+store_all_requires : tie.Need-store-all-requires
+store_all_requires c κs = search rules
 
 same_length : tie.Need-same-length
 same_length c = search rules
@@ -30,10 +30,10 @@ pub copy_spec : {M : Type 1} → statement M
 copy_spec =
     tie.close
     (tie.spec
-    add-end
-    sub-store-all
-    part-store-all-start
-    part-store-all-end
-    store-all-requires
+    add_end
+    sub_store_all
+    part_store_all_start
+    part_store_all_end
+    store_all_requires
     same_length
     returns)

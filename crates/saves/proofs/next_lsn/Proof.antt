@@ -1,44 +1,44 @@
 -- The LSN after that of the commit that stands at the place of the log's latest.
 use Rattle.std.proofs.Common.{◌≡◌, arith, rules}
-use Rattle.commits.specs.Places.{commitAt}
-use Rattle.commits.proofs.LookLaws.{place_at, place-missing}
-use Rattle.saves.proofs.Asks.{first-lsn, no-lsn, next-lsn}
+use Rattle.commits.specs.Places.{commit_at}
+use Rattle.commits.proofs.LookLaws.{place_at_lem, place_missing}
+use Rattle.saves.proofs.Asks.{first_lsn, no_lsn, next_lsn_lem}
 use Rattle.saves.proofs.next_lsn.Statement.{statement}
 use Rattle.saves.proofs.next_lsn.Tie as tie
 
-latest-requires : tie.Need-latest-requires
-latest-requires c κs = search rules
+latest_requires : tie.Need-latest-requires
+latest_requires c κs = search rules
 
-enum-known-i : tie.Need-enum-known-i
-enum-known-i c = search rules
+enum_known_i : tie.Need-enum-known-i
+enum_known_i c = search rules
 
 enum_told : tie.Need-enum-told
 enum_told c = search rules
 
 returns : tie.Need-returns
-returns c = first-lsn _ (place-missing c.before.before.before.before.args.commits.now _ _ c.before.before.latest.ensures c.enum_told.given.1)
+returns c = first_lsn _ (place_missing c.before.before.before.before.args.commits.now _ _ c.before.before.latest.ensures c.enum_told.given.1)
 
-lsn-at-requires : tie.Need-lsn-at-requires
-lsn-at-requires c κs = (c.before.before.before.before.before.requires, (place_at c.before.before.before.before.before.args.commits.now _ _ c.before.before.before.latest.ensures c.before.i.given.0.0 c.before.i.given.1).1)
+lsn_at_requires : tie.Need-lsn-at-requires
+lsn_at_requires c κs = (c.before.before.before.before.before.requires, (place_at_lem c.before.before.before.before.before.args.commits.now _ _ c.before.before.before.latest.ensures c.before.i.given.0.0 c.before.i.given.1).1)
 
-returns-2 : tie.Need-returns-2
-returns-2 c = no-lsn _ (commitAt c.before.before.before.before.before.before.before.args.commits.now c.before.before.before.i.given.0.0) (place_at c.before.before.before.before.before.before.before.args.commits.now _ _ c.before.before.before.before.before.latest.ensures c.before.before.before.i.given.0.0 c.before.before.before.i.given.1).0 c.before.lsn-at.result c.before.lsn-at.ensures c.if1.true
+returns_2 : tie.Need-returns-2
+returns_2 c = no_lsn _ (commit_at c.before.before.before.before.before.before.before.args.commits.now c.before.before.before.i.given.0.0) (place_at_lem c.before.before.before.before.before.before.before.args.commits.now _ _ c.before.before.before.before.before.latest.ensures c.before.before.before.i.given.0.0 c.before.before.before.i.given.1).0 c.before.lsn_at.result c.before.lsn_at.ensures c.if1.true
 
-add-t8 : tie.Need-overflow-add-t8
-add-t8 c = search rules
+add_t8 : tie.Need-overflow-add-t8
+add_t8 c = search rules
 
-returns-3 : tie.Need-returns-3
-returns-3 c = next-lsn _ (commitAt c.before.before.before.before.before.before.before.args.commits.now c.before.before.before.i.given.0.0) (place_at c.before.before.before.before.before.before.before.args.commits.now _ _ c.before.before.before.before.before.latest.ensures c.before.before.before.i.given.0.0 c.before.before.before.i.given.1).0 c.before.lsn-at.result c.before.lsn-at.ensures c.if1.false (omega arith)
+returns_3 : tie.Need-returns-3
+returns_3 c = next_lsn_lem _ (commit_at c.before.before.before.before.before.before.before.args.commits.now c.before.before.before.i.given.0.0) (place_at_lem c.before.before.before.before.before.before.before.args.commits.now _ _ c.before.before.before.before.before.latest.ensures c.before.before.before.i.given.0.0 c.before.before.before.i.given.1).0 c.before.lsn_at.result c.before.lsn_at.ensures c.if1.false (omega arith)
 
-pub next-lsn-spec : {M : Type 1} → statement M
-next-lsn-spec =
+pub next_lsn_spec : {M : Type 1} → statement M
+next_lsn_spec =
     tie.close
     (tie.spec
-    latest-requires
-    enum-known-i
+    latest_requires
+    enum_known_i
     enum_told
     returns
-    lsn-at-requires
-    returns-2
-    add-t8
-    returns-3)
+    lsn_at_requires
+    returns_2
+    add_t8
+    returns_3)

@@ -4,11 +4,11 @@ use Rattle.std.proofs.Common.{rules}
 use Rattle.searchcalls.proofs.entry_commit.Statement.{statement}
 use Rattle.searchcalls.proofs.entry_commit.Tie as tie
 
-find-commit-requires : tie.Need-find-commit-requires
-find-commit-requires c κs = search rules
+find_commit_requires : tie.Need-find-commit-requires
+find_commit_requires c κs = search rules
 
-enum-known-i : tie.Need-enum-known-i
-enum-known-i c = search rules
+enum_known_i : tie.Need-enum-known-i
+enum_known_i c = search rules
 
 enum_told : tie.Need-enum-told
 enum_told c = search rules
@@ -16,9 +16,9 @@ enum_told c = search rules
 returns : tie.Need-returns
 returns c = stored c.before.before.before.before.before.args.commits.now c.before.before.before.before.before.args.log c.before.before.before.before.before.args.lsn.0 _ c.before.before.before.find-commit.ensures _ c.before.i.given.1
 
-returns-2 : tie.Need-returns-2
-returns-2 c = unstored c.before.before.before.before.args.commits.now c.before.before.before.before.args.log c.before.before.before.before.args.lsn.0 _ c.before.before.find-commit.ensures c.enum_told.given.1
+returns_2 : tie.Need-returns-2
+returns_2 c = unstored c.before.before.before.before.args.commits.now c.before.before.before.before.args.log c.before.before.before.before.args.lsn.0 _ c.before.before.find-commit.ensures c.enum_told.given.1
 
-pub entry-commit-spec : {M : Type 1} → statement M
-entry-commit-spec =
-    tie.close (tie.spec find-commit-requires enum-known-i enum_told returns returns-2)
+pub entry_commit_spec : {M : Type 1} → statement M
+entry_commit_spec =
+    tie.close (tie.spec find_commit_requires enum_known_i enum_told returns returns_2)

@@ -1,31 +1,31 @@
 -- Each field is read at its place. Assumes nothing.
 use Rattle.std.proofs.Common.{sym, ap, ◌∙◌, rules}
 use Rattle.commit.specs.declared.SegmentRange.{SegmentRange}
-use Rattle.segmentbytes.specs.Laid.{rangeLaid}
-use Rattle.segmentbytes.proofs.SegmentLaws.{range_at}
+use Rattle.segmentbytes.specs.Laid.{range_laid}
+use Rattle.segmentbytes.proofs.SegmentLaws.{range_at_lem}
 use Rattle.segmentbytes.proofs.range_read.Statement.{statement}
 use Rattle.segmentbytes.proofs.range_read.Tie as tie
 
-load-id-requires : tie.Need-load-id-requires
-load-id-requires c κs = search rules
+load_id_requires : tie.Need-load-id-requires
+load_id_requires c κs = search rules
 
-add-load64 : tie.Need-overflow-add-load64
-add-load64 c = search rules
+add_load64 : tie.Need-overflow-add-load64
+add_load64 c = search rules
 
-load64-requires : tie.Need-load64-requires
-load64-requires c κs = search rules
+load64_requires : tie.Need-load64-requires
+load64_requires c κs = search rules
 
-add-load64-2 : tie.Need-overflow-add-load64-2
-add-load64-2 c = search rules
+add_load64_2 : tie.Need-overflow-add-load64-2
+add_load64_2 c = search rules
 
-load64-requires-2 : tie.Need-load64-requires-2
-load64-requires-2 c κs = search rules
+load64_requires_2 : tie.Need-load64-requires-2
+load64_requires_2 c κs = search rules
 
-add-set-read : tie.Need-overflow-add-set-read
-add-set-read c = search rules
+add_set_read : tie.Need-overflow-add-set-read
+add_set_read c = search rules
 
-set-read-requires : tie.Need-set-read-requires
-set-read-requires c κs = search rules
+set_read_requires : tie.Need-set-read-requires
+set_read_requires c κs = search rules
 
 returns : tie.Need-returns
 returns c =
@@ -34,17 +34,17 @@ returns c =
     let b = c.before.before.load64.ensures in
     let e = c.before.load642.ensures in
     let p = c.set-read.ensures in
-    ◌∙◌ {A = SegmentRange} (λ j. record { sid = i j; start = b j; end = e j; pages = p j }) (ap rangeLaid (sym (range_at a.s.now a.at)))
+    ◌∙◌ {A = SegmentRange} (λ j. record { sid = i j; start = b j; end = e j; pages = p j }) (ap range_laid (sym (range_at_lem a.s.now a.at)))
 
-pub range-read-spec : {M : Type 1} → statement M
-range-read-spec =
+pub range_read_spec : {M : Type 1} → statement M
+range_read_spec =
     tie.close
     (tie.spec
-    load-id-requires
-    add-load64
-    load64-requires
-    add-load64-2
-    load64-requires-2
-    add-set-read
-    set-read-requires
+    load_id_requires
+    add_load64
+    load64_requires
+    add_load64_2
+    load64_requires_2
+    add_set_read
+    set_read_requires
     returns)

@@ -2,33 +2,33 @@
 use Rattle.std.proofs.Common.{◌≡◌, ℕ, ◌≤◌, length, ap, arith, length-take, rules}
 use Rattle.pageset.specs.Sets.{shown}
 use Rattle.commit.specs.declared.SegmentRange.{SegmentRange}
-use Rattle.commit.specs.Says.{rangeSays}
+use Rattle.commit.specs.Says.{range_says}
 use Rattle.setbytes.proofs.WindowLaws.{set_long}
-use Rattle.segmentbytes.proofs.TypeLaws.{range-sid-16, range-windows-32}
-use Rattle.segmentbytes.proofs.SegmentLaws.{range-stored}
+use Rattle.segmentbytes.proofs.TypeLaws.{range_sid_16, range_windows_32}
+use Rattle.segmentbytes.proofs.SegmentLaws.{range_stored}
 use Rattle.segmentbytes.proofs.range_write.Statement.{statement}
 use Rattle.segmentbytes.proofs.range_write.Tie as tie
 
-store-id-requires : tie.Need-store-id-requires
-store-id-requires c κs = search rules
+store_id_requires : tie.Need-store-id-requires
+store_id_requires c κs = search rules
 
-add-store64 : tie.Need-overflow-add-store64
-add-store64 c = search rules
+add_store64 : tie.Need-overflow-add-store64
+add_store64 c = search rules
 
-store64-requires : tie.Need-store64-requires
-store64-requires c κs = search rules
+store64_requires : tie.Need-store64-requires
+store64_requires c κs = search rules
 
-add-store64-2 : tie.Need-overflow-add-store64-2
-add-store64-2 c = search rules
+add_store64_2 : tie.Need-overflow-add-store64-2
+add_store64_2 c = search rules
 
-store64-requires-2 : tie.Need-store64-requires-2
-store64-requires-2 c κs = search rules
+store64_requires_2 : tie.Need-store64-requires-2
+store64_requires_2 c κs = search rules
 
-add-set-write : tie.Need-overflow-add-set-write
-add-set-write c = search rules
+add_set_write : tie.Need-overflow-add-set-write
+add_set_write c = search rules
 
-set-write-requires : tie.Need-set-write-requires
-set-write-requires c κs = (search rules, ap (λ (x : SegmentRange). x.pages) c.before.before.before.before.before.before.before.before.before.before.before.before.before.before.before.before.requires.1)
+set_write_requires : tie.Need-set-write-requires
+set_write_requires c κs = (search rules, ap (λ (x : SegmentRange). x.pages) c.before.before.before.before.before.before.before.before.before.before.before.before.before.before.before.before.requires.1)
 
 same_length : tie.Need-same-length
 same_length c = search rules
@@ -38,20 +38,20 @@ returns c =
     let a = c.before.before.before.before.before.before.before.before.before.before.before.before.before.before.before.before.before.before.before in
     let x = a.args.x in
     let g = a.well-formed.1.1.0 in
-    let few : length (shown x.pages) ≤ 32 = omega (arith, length-take x.pages.len x.pages.windows, range-windows-32 x _ g) in
-    range-stored a.args.at (rangeSays x) a.args.s.now _ _ _ _ (range-sid-16 x _ g) (set_long (shown x.pages) few) (omega arith)
+    let few : length (shown x.pages) ≤ 32 = omega (arith, length-take x.pages.len x.pages.windows, range_windows_32 x _ g) in
+    range_stored a.args.at (range_says x) a.args.s.now _ _ _ _ (range_sid_16 x _ g) (set_long (shown x.pages) few) (omega arith)
     c.before.before.before.before.before.before.before.before.before.before.before.before.before.before.store-id.ensures c.before.before.before.before.before.before.before.before.before.before.store64.ensures c.before.before.before.before.before.before.store642.ensures c.before.before.set-write.ensures
 
-pub range-write-spec : {M : Type 1} → statement M
-range-write-spec =
+pub range_write_spec : {M : Type 1} → statement M
+range_write_spec =
     tie.close
     (tie.spec
-    store-id-requires
-    add-store64
-    store64-requires
-    add-store64-2
-    store64-requires-2
-    add-set-write
-    set-write-requires
+    store_id_requires
+    add_store64
+    store64_requires
+    add_store64_2
+    store64_requires_2
+    add_set_write
+    set_write_requires
     same_length
     returns)

@@ -2,35 +2,35 @@
 use Rattle.std.proofs.Common.{ℕ, ap, ◌∙◌, rules}
 use mathlib.Core.Option.{Option, some, map}
 use Rattle.rules.specs.Records.{Commit}
-use Rattle.commits.proofs.LookLaws.{place_at, place-missing}
+use Rattle.commits.proofs.LookLaws.{place_at_lem, place_missing}
 use Rattle.synccalls.proofs.latest_lsn.Statement.{statement}
 use Rattle.synccalls.proofs.latest_lsn.Tie as tie
 
-latest-requires : tie.Need-latest-requires
-latest-requires c κs = search rules
+latest_requires : tie.Need-latest-requires
+latest_requires c κs = search rules
 
-enum-known-i : tie.Need-enum-known-i
-enum-known-i c = search rules
+enum_known_i : tie.Need-enum-known-i
+enum_known_i c = search rules
 
 enum_told : tie.Need-enum-told
 enum_told c = search rules
 
 returns : tie.Need-returns
-returns c = ap (map (λ (x : Commit). x.lsn)) (place-missing c.before.before.before.before.args.commits.now _ _ c.before.before.latest.ensures c.enum_told.given.1)
+returns c = ap (map (λ (x : Commit). x.lsn)) (place_missing c.before.before.before.before.args.commits.now _ _ c.before.before.latest.ensures c.enum_told.given.1)
 
-lsn-at-requires : tie.Need-lsn-at-requires
-lsn-at-requires c κs = (c.before.before.before.before.before.requires, (place_at c.before.before.before.before.before.args.commits.now _ _ c.before.before.before.latest.ensures c.before.i.given.0.0 c.before.i.given.1).1)
+lsn_at_requires : tie.Need-lsn-at-requires
+lsn_at_requires c κs = (c.before.before.before.before.before.requires, (place_at_lem c.before.before.before.before.before.args.commits.now _ _ c.before.before.before.latest.ensures c.before.i.given.0.0 c.before.i.given.1).1)
 
-returns-2 : tie.Need-returns-2
-returns-2 c = ap (λ (n : ℕ). some n) c.lsn-at.ensures ∙ ap (map (λ (x : Commit). x.lsn)) (place_at c.before.before.before.before.before.before.args.commits.now _ _ c.before.before.before.before.latest.ensures c.before.before.i.given.0.0 c.before.before.i.given.1).0
+returns_2 : tie.Need-returns-2
+returns_2 c = ap (λ (n : ℕ). some n) c.lsn_at.ensures ∙ ap (map (λ (x : Commit). x.lsn)) (place_at_lem c.before.before.before.before.before.before.args.commits.now _ _ c.before.before.before.before.latest.ensures c.before.before.i.given.0.0 c.before.before.i.given.1).0
 
-pub latest-lsn-spec : {M : Type 1} → statement M
-latest-lsn-spec =
+pub latest_lsn_spec : {M : Type 1} → statement M
+latest_lsn_spec =
     tie.close
     (tie.spec
-    latest-requires
-    enum-known-i
+    latest_requires
+    enum_known_i
     enum_told
     returns
-    lsn-at-requires
-    returns-2)
+    lsn_at_requires
+    returns_2)

@@ -12,19 +12,19 @@ returns : tie.Need-returns
 unfolding cap_of
 returns c = omega (arith, div-le_self (length c.before.args.t.now - 2) c.before.args.stride)
 
-sub-n : tie.Need-overflow-sub-n
-sub-n c = search rules
+sub_n : tie.Need-overflow-sub-n
+sub_n c = search rules
 
-div-n : tie.Need-nonzero-div-n
-div-n c = search rules
+div_n : tie.Need-nonzero-div-n
+div_n c = search rules
 
-returns-2 : tie.Need-returns-2
+returns_2 : tie.Need-returns-2
 unfolding cap_of
-returns-2 c = omega arith
+returns_2 c = omega arith
 
-returns-3 : tie.Need-returns-3
+returns_3 : tie.Need-returns-3
 unfolding cap_of
-returns-3 c = omega arith
+returns_3 c = omega arith
 
 pub capacity_spec : {M : Type 1} → statement M
-capacity_spec = tie.close (tie.spec returns sub-n div-n returns-2 returns-3)
+capacity_spec = tie.close (tie.spec returns sub_n div_n returns_2 returns_3)

@@ -1,23 +1,23 @@
 -- `table::find` meets its contract: `find_in` among all records.
 use mathlib.Core.Path.{ap, ◌∙◌}
 use Rattle.table.specs.Records.{spot}
-use Rattle.table.proofs.Checks.{well-two, ready}
-use Rattle.table.proofs.Rows.{recs-are}
+use Rattle.table.proofs.Checks.{well_two, ready}
+use Rattle.table.proofs.Rows.{recs_are}
 use Rattle.table.proofs.find.Statement.{statement}
 use Rattle.table.proofs.find.Tie as tie
 
-count-requires : tie.Need-count-requires
-count-requires c κs = well-two c.before.before.args.stride c.before.before.args.klen c.before.before.args.t.now c.before.before.requires.1
+count_requires : tie.Need-count-requires
+count_requires c κs = well_two c.before.before.args.stride c.before.before.args.klen c.before.before.args.t.now c.before.before.requires.1
 
-find-in-requires : tie.Need-find-in-requires
-find-in-requires c κs =
+find_in_requires : tie.Need-find-in-requires
+find_in_requires c κs =
     let r = ready c.before.before.before.args.stride c.before.before.before.args.klen c.before.before.before.args.t.now c.before.before.before.requires.0.0 c.before.before.before.requires.1 c.count.result c.count.ensures.0 in
     ((c.before.before.before.requires.0.1, c.before.before.before.requires.0.2, r.0, c.count.ensures.1), r.1)
 
 returns : tie.Need-returns
 returns c =
     let a = c.before.before.before.before.args in
-    c.find-in.ensures ∙ ap (spot a.klen a.key.now) (recs-are a.stride c.before.count.result a.t.now c.before.count.ensures.0)
+    c.find-in.ensures ∙ ap (spot a.klen a.key.now) (recs_are a.stride c.before.count.result a.t.now c.before.count.ensures.0)
 
 pub find_spec : {M : Type 1} → statement M
-find_spec = tie.close (tie.spec count-requires find-in-requires returns)
+find_spec = tie.close (tie.spec count_requires find_in_requires returns)

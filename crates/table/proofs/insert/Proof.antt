@@ -4,8 +4,8 @@ use Prim.Native.Nat.{◌+◌, ◌-◌, ◌*◌, ◌≤◌}
 use native.Mathlib.Omega.{arith}
 use lib.ListN.{length}
 use Rattle.table.specs.Table.{count_of}
-use Rattle.table.proofs.Rows.{cap-two}
-use Rattle.table.proofs.Stores.{insert-size, insert-done}
+use Rattle.table.proofs.Rows.{cap_two}
+use Rattle.table.proofs.Stores.{insert_size, insert_done}
 use Rattle.table.proofs.insert.Statement.{statement}
 use Rattle.table.proofs.insert.Tie as tie
 
@@ -14,12 +14,12 @@ sized : (c : tie.After-count) → let a = c.before.before.before.before.args in 
 sized c =
     let s = c.before.before.before.before in
     let a = s.args in
-    insert-size a.stride a.t.now a.i s.requires.0 c.count.result c.count.ensures.0 s.requires.1 s.requires.2
+    insert_size a.stride a.t.now a.i s.requires.0 c.count.result c.count.ensures.0 s.requires.1 s.requires.2
 
-count-requires : tie.Need-count-requires
-count-requires c κs =
+count_requires : tie.Need-count-requires
+count_requires c κs =
     let a = c.before.before.before.args in
-    omega (arith, cap-two a.stride (count_of a.t.now + 1) a.t.now c.before.before.before.requires.0 (omega arith) (omega arith))
+    omega (arith, cap_two a.stride (count_of a.t.now + 1) a.t.now c.before.before.before.requires.0 (omega arith) (omega arith))
 
 mul_at : tie.Need-overflow-mul-at
 mul_at c = omega (arith, sized c)
@@ -27,23 +27,23 @@ mul_at c = omega (arith, sized c)
 add_at : tie.Need-overflow-add-at
 add_at c = omega (arith, sized c)
 
-sub-move-up : tie.Need-overflow-sub-move-up
-sub-move-up c = search rules
+sub_move_up : tie.Need-overflow-sub-move-up
+sub_move_up c = search rules
 
-mul-move-up : tie.Need-overflow-mul-move-up
-mul-move-up c = omega (arith, sized c.before)
+mul_move_up : tie.Need-overflow-mul-move-up
+mul_move_up c = omega (arith, sized c.before)
 
-move-up-requires : tie.Need-move-up-requires
-move-up-requires c κs = omega (arith, sized c.before)
+move_up_requires : tie.Need-move-up-requires
+move_up_requires c κs = omega (arith, sized c.before)
 
-store-all-requires : tie.Need-store-all-requires
-store-all-requires c κs = omega (arith, sized c.before.before.before.before.before, c.before.before.before.move_up.auto.0)
+store_all_requires : tie.Need-store-all-requires
+store_all_requires c κs = omega (arith, sized c.before.before.before.before.before, c.before.before.before.move_up.auto.0)
 
-add-store16 : tie.Need-overflow-add-store16
-add-store16 c = search rules
+add_store16 : tie.Need-overflow-add-store16
+add_store16 c = search rules
 
-store16-requires : tie.Need-store16-requires
-store16-requires c κs = omega (arith, sized c.before.before.before.before.before.before.before.before.before, c.before.before.before.before.before.before.before.move_up.auto.0, c.before.before.before.store-all.auto.0)
+store16_requires : tie.Need-store16-requires
+store16_requires c κs = omega (arith, sized c.before.before.before.before.before.before.before.before.before, c.before.before.before.before.before.before.before.move_up.auto.0, c.before.before.before.store-all.auto.0)
 
 same_length : tie.Need-same-length
 same_length c = search rules
@@ -52,20 +52,20 @@ returns : tie.Need-returns
 returns c =
     let a = c.before.before.before.before.before.before.before.before.before.before.before.before.before.before.before.before.args in
     let p = c.before.before.before.before.before.before.before.before.before.before.before.before.before.before.before.before.requires in
-    insert-done a.stride a.t.now a.i p.0 c.before.before.before.before.before.before.before.before.before.before.before.before.count.result a.rec.now _ _ _ c.before.before.before.before.before.before.before.before.before.before.before.before.count.ensures.0 p.1 p.2 p.3 c.before.before.before.before.before.before.before.before.before.before.move_up.ensures c.before.before.before.before.before.before.store-all.ensures c.before.before.store16.ensures
+    insert_done a.stride a.t.now a.i p.0 c.before.before.before.before.before.before.before.before.before.before.before.before.count.result a.rec.now _ _ _ c.before.before.before.before.before.before.before.before.before.before.before.before.count.ensures.0 p.1 p.2 p.3 c.before.before.before.before.before.before.before.before.before.before.move_up.ensures c.before.before.before.before.before.before.store-all.ensures c.before.before.store16.ensures
 
-pub insert-spec : {M : Type 1} → statement M
-insert-spec =
+pub insert_spec : {M : Type 1} → statement M
+insert_spec =
     tie.close
     (tie.spec
-    count-requires
+    count_requires
     mul_at
     add_at
-    sub-move-up
-    mul-move-up
-    move-up-requires
-    store-all-requires
-    add-store16
-    store16-requires
+    sub_move_up
+    mul_move_up
+    move_up_requires
+    store_all_requires
+    add_store16
+    store16_requires
     same_length
     returns)

@@ -3,11 +3,11 @@ use Rattle.std.proofs.Common.{rules}
 use Rattle.tablereplies.proofs.put_maybe_count.Statement.{statement}
 use Rattle.tablereplies.proofs.put_maybe_count.Tie as tie
 
-enum-known-a : tie.Need-enum-known-a
-enum-known-a c = search rules
+enum_known_a : tie.Need-enum-known-a
+enum_known_a c = search rules
 
-enum-known-a-2 : tie.Need-enum-known-a-2
-enum-known-a-2 c = search rules
+enum_known_a_2 : tie.Need-enum-known-a-2
+enum_known_a_2 c = search rules
 
 enum_told : tie.Need-enum-told
 enum_told c = search rules
@@ -15,12 +15,12 @@ enum_told c = search rules
 returns : tie.Need-returns
 returns c = rw c.before.a.given.1
 
-returns-2 : tie.Need-returns-2
-returns-2 c = rw c.before.a2.given.1
+returns_2 : tie.Need-returns-2
+returns_2 c = rw c.before.a2.given.1
 
-returns-3 : tie.Need-returns-3
-returns-3 c = rw c.enum_told.given.1
+returns_3 : tie.Need-returns-3
+returns_3 c = rw c.enum_told.given.1
 
-pub put-maybe-count-spec : {M : Type 1} → statement M
-put-maybe-count-spec =
-    tie.close (tie.spec enum-known-a enum-known-a-2 enum_told returns returns-2 returns-3)
+pub put_maybe_count_spec : {M : Type 1} → statement M
+put_maybe_count_spec =
+    tie.close (tie.spec enum_known_a enum_known_a_2 enum_told returns returns_2 returns_3)

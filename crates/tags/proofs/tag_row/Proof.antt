@@ -8,37 +8,37 @@ use Rattle.tags.proofs.tag_row.Tie as tie
 long : (a : tie.Start) → length a.args.vid ≡ 16
 long a = search rules
 
-tag-key-requires : tie.Need-tag-key-requires
-tag-key-requires c κs = search rules
+tag_key_requires : tie.Need-tag-key-requires
+tag_key_requires c κs = search rules
 
-slice-aggregate-store-all : tie.Need-slice-aggregate-store-all
-slice-aggregate-store-all c = search rules
+slice_aggregate_store_all : tie.Need-slice-aggregate-store-all
+slice_aggregate_store_all c = search rules
 
-slice-aggregate-store-all-2 : tie.Need-slice-aggregate-store-all-2
-slice-aggregate-store-all-2 c = search rules
+slice_aggregate_store_all_2 : tie.Need-slice-aggregate-store-all-2
+slice_aggregate_store_all_2 c = search rules
 
-store-all-requires : tie.Need-store-all-requires
-store-all-requires c κs = search rules
+store_all_requires : tie.Need-store-all-requires
+store_all_requires c κs = search rules
 
-slice-aggregate-store-id : tie.Need-slice-aggregate-store-id
-slice-aggregate-store-id c = search rules
+slice_aggregate_store_id : tie.Need-slice-aggregate-store-id
+slice_aggregate_store_id c = search rules
 
-store-id-requires : tie.Need-store-id-requires
-store-id-requires c κs = search rules
+store_id_requires : tie.Need-store-id-requires
+store_id_requires c κs = search rules
 
 returns : tie.Need-returns
 returns c =
     let a = c.before.before.before.before.before.before.before.before.before in
-    row_made a.args.name.now a.args.vid _ _ _ a.requires (long a) c.before.before.before.before.before.before.before.tag-key.ensures c.before.before.before.before.store-all.ensures c.before.store-id.ensures
+    row_made a.args.name.now a.args.vid _ _ _ a.requires (long a) c.before.before.before.before.before.before.before.tag_key.ensures c.before.before.before.before.store-all.ensures c.before.store-id.ensures
 
-pub tag-row-spec : {M : Type 1} → statement M
-tag-row-spec =
+pub tag_row_spec : {M : Type 1} → statement M
+tag_row_spec =
     tie.close
     (tie.spec
-    tag-key-requires
-    slice-aggregate-store-all
-    slice-aggregate-store-all-2
-    store-all-requires
-    slice-aggregate-store-id
-    store-id-requires
+    tag_key_requires
+    slice_aggregate_store_all
+    slice_aggregate_store_all_2
+    store_all_requires
+    slice_aggregate_store_id
+    store_id_requires
     returns)

@@ -1,5 +1,5 @@
 -- The sync point by its two cases.
-use Rattle.viewcalls.proofs.CheckLaws.{without-sync, with-sync}
+use Rattle.viewcalls.proofs.CheckLaws.{without_sync, with_sync}
 use Rattle.std.proofs.Common.{rules}
 use Rattle.viewcalls.proofs.fits_sync.Statement.{statement}
 use Rattle.viewcalls.proofs.fits_sync.Tie as tie
@@ -7,14 +7,14 @@ use Rattle.viewcalls.proofs.fits_sync.Tie as tie
 enum_told : tie.Need-enum-told
 enum_told c = search rules
 
-enum-told-2 : tie.Need-enum-told-2
-enum-told-2 c = search rules
+enum_told_2 : tie.Need-enum-told-2
+enum_told_2 c = search rules
 
 returns : tie.Need-returns
-returns c = without-sync (c.before.before).args.found (c.before.before).args.sync c.enum_told.given.1
+returns c = without_sync (c.before.before).args.found (c.before.before).args.sync c.enum_told.given.1
 
-returns-2 : tie.Need-returns-2
-returns-2 c = with-sync (c.before.before).args.found (c.before.before).args.sync _ c.enum-told2.given.1
+returns_2 : tie.Need-returns-2
+returns_2 c = with_sync (c.before.before).args.found (c.before.before).args.sync _ c.enum-told2.given.1
 
-pub fits-sync-spec : {M : Type 1} → statement M
-fits-sync-spec = tie.close (tie.spec enum_told enum-told-2 returns returns-2)
+pub fits_sync_spec : {M : Type 1} → statement M
+fits_sync_spec = tie.close (tie.spec enum_told enum_told_2 returns returns_2)

@@ -1,7 +1,7 @@
 -- The sync point by its two cases.
 use Rattle.std.proofs.Common.{sym, ap, rules}
-use Rattle.rules.specs.Snapshots.{remoteOf}
-use Rattle.volume.specs.Volumes.{syncSays}
+use Rattle.rules.specs.Snapshots.{remote_of}
+use Rattle.volume.specs.Volumes.{sync_says}
 use Rattle.volume.specs.declared.volume.Sync.{Sync}
 use Rattle.viewcalls.proofs.remote_of.Statement.{statement}
 use Rattle.viewcalls.proofs.remote_of.Tie as tie
@@ -9,14 +9,14 @@ use Rattle.viewcalls.proofs.remote_of.Tie as tie
 enum_told : tie.Need-enum-told
 enum_told c = search rules
 
-enum-known-sync : tie.Need-enum-known-sync
-enum-known-sync c = search rules
+enum_known_sync : tie.Need-enum-known-sync
+enum_known_sync c = search rules
 
 returns : tie.Need-returns
 returns c = search rules
 
-returns-2 : tie.Need-returns-2
-returns-2 c = sym (ap (λ (y : Sync). remoteOf (syncSays y)) c.before.before.sync.given.1)
+returns_2 : tie.Need-returns-2
+returns_2 c = sym (ap (λ (y : Sync). remote_of (sync_says y)) c.before.before.sync.given.1)
 
-pub remote-of-spec : {M : Type 1} → statement M
-remote-of-spec = tie.close (tie.spec enum_told enum-known-sync returns returns-2)
+pub remote_of_spec : {M : Type 1} → statement M
+remote_of_spec = tie.close (tie.spec enum_told enum_known_sync returns returns_2)

@@ -3,92 +3,92 @@ use Rattle.std.proofs.Common.{ℕ, sym, ap, ◌∙◌, rules}
 use mathlib.Core.Option.{Option, none, some}
 use borrow.Author.Tests.{not-true, not-false}
 use Rattle.rules.specs.Snapshots.{below, after}
-use Rattle.layout.specs.Tables.{commitsIn}
-use Rattle.volume.specs.Volumes.{maybeLsnSays, volumeSays}
+use Rattle.layout.specs.Tables.{commits_in}
+use Rattle.volume.specs.Volumes.{maybe_lsn_says, volume_says}
 use Rattle.volume.specs.Snapshots.{laid}
-use Rattle.commits.specs.Places.{commitAt}
-use Rattle.commits.proofs.LookLaws.{place_at, place-missing}
-use Rattle.viewcalls.proofs.Ends.{no_local, all-pushed, local-first}
+use Rattle.commits.specs.Places.{commit_at}
+use Rattle.commits.proofs.LookLaws.{place_at_lem, place_missing}
+use Rattle.viewcalls.proofs.Ends.{no_local, all_pushed, local_first}
 use Rattle.viewcalls.proofs.snapshot_of.Statement.{statement}
 use Rattle.viewcalls.proofs.snapshot_of.Tie as tie
 
-latest-requires : tie.Need-latest-requires
-latest-requires c κs = search rules
+latest_requires : tie.Need-latest-requires
+latest_requires c κs = search rules
 
-enum-known-i : tie.Need-enum-known-i
-enum-known-i c = search rules
+enum_known_i : tie.Need-enum-known-i
+enum_known_i c = search rules
 
 enum_told : tie.Need-enum-told
 enum_told c = search rules
 
-remote-snapshot-requires : tie.Need-remote-snapshot-requires
-remote-snapshot-requires c κs = search rules
+remote_snapshot_requires : tie.Need-remote-snapshot-requires
+remote_snapshot_requires c κs = search rules
 
 returns : tie.Need-returns
-returns c = c.remote-snapshot.ensures ∙ ap laid (no_local (commitsIn (c.before.before.before.before.before.before.before).args.commits.now) (volumeSays (c.before.before.before.before.before.before.before).args.v) (place-missing (c.before.before.before.before.before.before.before).args.commits.now _ _ c.before.before.before.latest.ensures c.before.enum_told.given.1))
+returns c = c.remote-snapshot.ensures ∙ ap laid (no_local (commits_in (c.before.before.before.before.before.before.before).args.commits.now) (volume_says (c.before.before.before.before.before.before.before).args.v) (place_missing (c.before.before.before.before.before.before.before).args.commits.now _ _ c.before.before.before.latest.ensures c.before.enum_told.given.1))
 
-lsn-at-requires : tie.Need-lsn-at-requires
-lsn-at-requires c κs = ((c.before.before.before.before.before.before.before).requires, (place_at (c.before.before.before.before.before.before.before).args.commits.now _ _ c.before.before.before.latest.ensures c.before.i.given.0.0 c.before.i.given.1).1)
+lsn_at_requires : tie.Need-lsn-at-requires
+lsn_at_requires c κs = ((c.before.before.before.before.before.before.before).requires, (place_at_lem (c.before.before.before.before.before.before.before).args.commits.now _ _ c.before.before.before.latest.ensures c.before.i.given.0.0 c.before.i.given.1).1)
 
-watermark-of-requires : tie.Need-watermark-of-requires
-watermark-of-requires c κs = search rules
+watermark_of_requires : tie.Need-watermark-of-requires
+watermark_of_requires c κs = search rules
 
-is-below-requires : tie.Need-is-below-requires
-is-below-requires c κs = search rules
+is_below_requires : tie.Need-is-below-requires
+is_below_requires c κs = search rules
 
-remote-snapshot-requires-2 : tie.Need-remote-snapshot-requires-2
-remote-snapshot-requires-2 c κs = search rules
+remote_snapshot_requires_2 : tie.Need-remote-snapshot-requires-2
+remote_snapshot_requires_2 c κs = search rules
 
-returns-2 : tie.Need-returns-2
-returns-2 c = c.remote-snapshot2.ensures ∙ ap laid (all-pushed (commitsIn (c.before.before.before.before.before.before.before.before.before.before.before.before).args.commits.now) (volumeSays (c.before.before.before.before.before.before.before.before.before.before.before.before).args.v) (commitAt (c.before.before.before.before.before.before.before.before.before.before.before.before).args.commits.now c.before.before.before.before.before.before.i.given.0.0) (place_at (c.before.before.before.before.before.before.before.before.before.before.before.before).args.commits.now _ _ c.before.before.before.before.before.before.before.before.latest.ensures c.before.before.before.before.before.before.i.given.0.0 c.before.before.before.before.before.before.i.given.1).0 c.before.before.before.before.lsn-at.result c.before.before.before.before.lsn-at.ensures (ap (λ (w : Option ℕ). below w c.before.before.before.before.lsn-at.result) (sym c.before.before.before.watermark-of.ensures) ∙ sym c.before.before.is_below.ensures ∙ not-true _ c.before.if1.true))
+returns_2 : tie.Need-returns-2
+returns_2 c = c.remote-snapshot2.ensures ∙ ap laid (all_pushed (commits_in (c.before.before.before.before.before.before.before.before.before.before.before.before).args.commits.now) (volume_says (c.before.before.before.before.before.before.before.before.before.before.before.before).args.v) (commit_at (c.before.before.before.before.before.before.before.before.before.before.before.before).args.commits.now c.before.before.before.before.before.before.i.given.0.0) (place_at_lem (c.before.before.before.before.before.before.before.before.before.before.before.before).args.commits.now _ _ c.before.before.before.before.before.before.before.before.latest.ensures c.before.before.before.before.before.before.i.given.0.0 c.before.before.before.before.before.before.i.given.1).0 c.before.before.before.before.lsn_at.result c.before.before.before.before.lsn_at.ensures (ap (λ (w : Option ℕ). below w c.before.before.before.before.lsn_at.result) (sym c.before.before.before.watermark-of.ensures) ∙ sym c.before.before.is_below.ensures ∙ not-true _ c.before.if1.true))
 
-count-at-requires : tie.Need-count-at-requires
-count-at-requires c κs = ((c.before.before.before.before.before.before.before.before.before.before.before).requires, (place_at (c.before.before.before.before.before.before.before.before.before.before.before).args.commits.now _ _ c.before.before.before.before.before.before.before.latest.ensures c.before.before.before.before.before.i.given.0.0 c.before.before.before.before.before.i.given.1).1)
+count_at_requires : tie.Need-count-at-requires
+count_at_requires c κs = ((c.before.before.before.before.before.before.before.before.before.before.before).requires, (place_at_lem (c.before.before.before.before.before.before.before.before.before.before.before).args.commits.now _ _ c.before.before.before.before.before.before.before.latest.ensures c.before.before.before.before.before.i.given.0.0 c.before.before.before.before.before.i.given.1).1)
 
-lsn-after-requires : tie.Need-lsn-after-requires
-lsn-after-requires c κs = sym c.before.before.is_below.ensures ∙ not-false _ c.before.if1.false
+lsn_after_requires : tie.Need-lsn-after-requires
+lsn_after_requires c κs = sym c.before.before.is_below.ensures ∙ not-false _ c.before.if1.false
 
-remote-of-requires : tie.Need-remote-of-requires
-remote-of-requires c κs = search rules
+remote_of_requires : tie.Need-remote-of-requires
+remote_of_requires c κs = search rules
 
-enum-known-synced : tie.Need-enum-known-synced
-enum-known-synced c = search rules
+enum_known_synced : tie.Need-enum-known-synced
+enum_known_synced c = search rules
 
-enum-told-2 : tie.Need-enum-told-2
-enum-told-2 c = search rules
+enum_told_2 : tie.Need-enum-told-2
+enum_told_2 c = search rules
 
-one-range-requires : tie.Need-one-range-requires
-one-range-requires c κs = search rules
+one_range_requires : tie.Need-one-range-requires
+one_range_requires c κs = search rules
 
-returns-3 : tie.Need-returns-3
-returns-3 c = c.one-range.ensures ∙ ap laid (local-first (commitsIn (c.before.before.before.before.before.before.before.before.before.before.before.before.before.before.before.before.before).args.commits.now) (volumeSays (c.before.before.before.before.before.before.before.before.before.before.before.before.before.before.before.before.before).args.v) (commitAt (c.before.before.before.before.before.before.before.before.before.before.before.before.before.before.before.before.before).args.commits.now c.before.before.before.before.before.before.before.before.before.before.before.i.given.0.0) (place_at (c.before.before.before.before.before.before.before.before.before.before.before.before.before.before.before.before.before).args.commits.now _ _ c.before.before.before.before.before.before.before.before.before.before.before.before.before.latest.ensures c.before.before.before.before.before.before.before.before.before.before.before.i.given.0.0 c.before.before.before.before.before.before.before.before.before.before.before.i.given.1).0 c.before.before.before.before.before.before.before.before.before.lsn-at.result c.before.before.before.before.before.before.before.before.before.lsn-at.ensures (ap (λ (w : Option ℕ). below w c.before.before.before.before.before.before.before.before.before.lsn-at.result) (sym c.before.before.before.before.before.before.before.before.watermark-of.ensures) ∙ sym c.before.before.before.before.before.before.before.is_below.ensures ∙ not-false _ c.before.before.before.before.before.before.if1.false) c.before.before.before.before.lsn-after.result c.before.before.before.before.before.count_at.result (c.before.before.before.before.lsn-after.ensures ∙ ap after c.before.before.before.before.before.before.before.before.watermark-of.ensures) c.before.before.before.before.before.count_at.ensures none (ap maybeLsnSays (sym c.before.enum-told2.given.1) ∙ c.before.before.before.remote-of.ensures))
+returns_3 : tie.Need-returns-3
+returns_3 c = c.one_range.ensures ∙ ap laid (local_first (commits_in (c.before.before.before.before.before.before.before.before.before.before.before.before.before.before.before.before.before).args.commits.now) (volume_says (c.before.before.before.before.before.before.before.before.before.before.before.before.before.before.before.before.before).args.v) (commit_at (c.before.before.before.before.before.before.before.before.before.before.before.before.before.before.before.before.before).args.commits.now c.before.before.before.before.before.before.before.before.before.before.before.i.given.0.0) (place_at_lem (c.before.before.before.before.before.before.before.before.before.before.before.before.before.before.before.before.before).args.commits.now _ _ c.before.before.before.before.before.before.before.before.before.before.before.before.before.latest.ensures c.before.before.before.before.before.before.before.before.before.before.before.i.given.0.0 c.before.before.before.before.before.before.before.before.before.before.before.i.given.1).0 c.before.before.before.before.before.before.before.before.before.lsn_at.result c.before.before.before.before.before.before.before.before.before.lsn_at.ensures (ap (λ (w : Option ℕ). below w c.before.before.before.before.before.before.before.before.before.lsn_at.result) (sym c.before.before.before.before.before.before.before.before.watermark-of.ensures) ∙ sym c.before.before.before.before.before.before.before.is_below.ensures ∙ not-false _ c.before.before.before.before.before.before.if1.false) c.before.before.before.before.lsn-after.result c.before.before.before.before.before.count_at.result (c.before.before.before.before.lsn-after.ensures ∙ ap after c.before.before.before.before.before.before.before.before.watermark-of.ensures) c.before.before.before.before.before.count_at.ensures none (ap maybe_lsn_says (sym c.before.enum-told2.given.1) ∙ c.before.before.before.remote_of.ensures))
 
-two-ranges-requires : tie.Need-two-ranges-requires
-two-ranges-requires c κs = search rules
+two_ranges_requires : tie.Need-two-ranges-requires
+two_ranges_requires c κs = search rules
 
-returns-4 : tie.Need-returns-4
-returns-4 c = c.two-ranges.ensures ∙ ap laid (local-first (commitsIn (c.before.before.before.before.before.before.before.before.before.before.before.before.before.before.before.before.before.before).args.commits.now) (volumeSays (c.before.before.before.before.before.before.before.before.before.before.before.before.before.before.before.before.before.before).args.v) (commitAt (c.before.before.before.before.before.before.before.before.before.before.before.before.before.before.before.before.before.before).args.commits.now c.before.before.before.before.before.before.before.before.before.before.before.before.i.given.0.0) (place_at (c.before.before.before.before.before.before.before.before.before.before.before.before.before.before.before.before.before.before).args.commits.now _ _ c.before.before.before.before.before.before.before.before.before.before.before.before.before.before.latest.ensures c.before.before.before.before.before.before.before.before.before.before.before.before.i.given.0.0 c.before.before.before.before.before.before.before.before.before.before.before.before.i.given.1).0 c.before.before.before.before.before.before.before.before.before.before.lsn-at.result c.before.before.before.before.before.before.before.before.before.before.lsn-at.ensures (ap (λ (w : Option ℕ). below w c.before.before.before.before.before.before.before.before.before.before.lsn-at.result) (sym c.before.before.before.before.before.before.before.before.before.watermark-of.ensures) ∙ sym c.before.before.before.before.before.before.before.before.is_below.ensures ∙ not-false _ c.before.before.before.before.before.before.before.if1.false) c.before.before.before.before.before.lsn-after.result c.before.before.before.before.before.before.count_at.result (c.before.before.before.before.before.lsn-after.ensures ∙ ap after c.before.before.before.before.before.before.before.before.before.watermark-of.ensures) c.before.before.before.before.before.before.count_at.ensures (some c.before.before.synced.given.0.0.0) (ap maybeLsnSays (sym c.before.before.synced.given.1) ∙ c.before.before.before.before.remote-of.ensures))
+returns_4 : tie.Need-returns-4
+returns_4 c = c.two-ranges.ensures ∙ ap laid (local_first (commits_in (c.before.before.before.before.before.before.before.before.before.before.before.before.before.before.before.before.before.before).args.commits.now) (volume_says (c.before.before.before.before.before.before.before.before.before.before.before.before.before.before.before.before.before.before).args.v) (commit_at (c.before.before.before.before.before.before.before.before.before.before.before.before.before.before.before.before.before.before).args.commits.now c.before.before.before.before.before.before.before.before.before.before.before.before.i.given.0.0) (place_at_lem (c.before.before.before.before.before.before.before.before.before.before.before.before.before.before.before.before.before.before).args.commits.now _ _ c.before.before.before.before.before.before.before.before.before.before.before.before.before.before.latest.ensures c.before.before.before.before.before.before.before.before.before.before.before.before.i.given.0.0 c.before.before.before.before.before.before.before.before.before.before.before.before.i.given.1).0 c.before.before.before.before.before.before.before.before.before.before.lsn_at.result c.before.before.before.before.before.before.before.before.before.before.lsn_at.ensures (ap (λ (w : Option ℕ). below w c.before.before.before.before.before.before.before.before.before.before.lsn_at.result) (sym c.before.before.before.before.before.before.before.before.before.watermark-of.ensures) ∙ sym c.before.before.before.before.before.before.before.before.is_below.ensures ∙ not-false _ c.before.before.before.before.before.before.before.if1.false) c.before.before.before.before.before.lsn-after.result c.before.before.before.before.before.before.count_at.result (c.before.before.before.before.before.lsn-after.ensures ∙ ap after c.before.before.before.before.before.before.before.before.before.watermark-of.ensures) c.before.before.before.before.before.before.count_at.ensures (some c.before.before.synced.given.0.0.0) (ap maybe_lsn_says (sym c.before.before.synced.given.1) ∙ c.before.before.before.before.remote_of.ensures))
 
-pub snapshot-of-spec : {M : Type 1} → statement M
-snapshot-of-spec =
+pub snapshot_of_spec : {M : Type 1} → statement M
+snapshot_of_spec =
     tie.close
     (tie.spec
-    latest-requires
-    enum-known-i
+    latest_requires
+    enum_known_i
     enum_told
-    remote-snapshot-requires
+    remote_snapshot_requires
     returns
-    lsn-at-requires
-    watermark-of-requires
-    is-below-requires
-    remote-snapshot-requires-2
-    returns-2
-    count-at-requires
-    lsn-after-requires
-    remote-of-requires
-    enum-known-synced
-    enum-told-2
-    one-range-requires
-    returns-3
-    two-ranges-requires
-    returns-4)
+    lsn_at_requires
+    watermark_of_requires
+    is_below_requires
+    remote_snapshot_requires_2
+    returns_2
+    count_at_requires
+    lsn_after_requires
+    remote_of_requires
+    enum_known_synced
+    enum_told_2
+    one_range_requires
+    returns_3
+    two_ranges_requires
+    returns_4)

@@ -2,39 +2,39 @@
 use Rattle.std.proofs.Common.{◌≡◌, sym, ap, ◌∙◌, rules}
 use mathlib.Core.Option.{Option, some, none}
 use borrow.Author.Tests.{not-true, not-false}
-use Rattle.std.specs.Answers.{Answer, refused, done, need, code, ◌>>=◌}
-use Rattle.layout.specs.Records.{volumeBytes}
-use Rattle.layout.proofs.LentLaws.{lent-no, unchanged, changed}
+use Rattle.basics.specs.Answers.{Answer, refused, done, need, code, ◌>>=◌}
+use Rattle.layout.specs.Records.{volume_bytes}
+use Rattle.layout.proofs.LentLaws.{lent_no, unchanged, changed}
 use Rattle.rules.specs.Records.{Volume}
-use Rattle.volumecalls.proofs.Ends.{delete-is}
+use Rattle.volumecalls.proofs.Ends.{delete_is}
 use Rattle.volumecalls.proofs.volume_delete.Statement.{statement}
 use Rattle.volumecalls.proofs.volume_delete.Tie as tie
 
-volumes-formed-requires : tie.Need-volumes-formed-requires
-volumes-formed-requires c κs = search rules
+volumes_formed_requires : tie.Need-volumes-formed-requires
+volumes_formed_requires c κs = search rules
 
 same_length : tie.Need-same-length
 same_length c = search rules
 
 returns : tie.Need-returns
-returns c = unchanged volumeBytes c.before.before.before.before.args.volumes.now _ 20 (lent-no _ _ (sym c.before.volumes-formed.ensures ∙ not-true _ c.if1.true))
+returns c = unchanged volume_bytes c.before.before.before.before.args.volumes.now _ 20 (lent_no _ _ (sym c.before.volumes_formed.ensures ∙ not-true _ c.if1.true))
 
-remove-volume-requires : tie.Need-remove-volume-requires
-remove-volume-requires c κs = (sym c.before.before.volumes-formed.ensures ∙ not-false _ c.before.if1.false)
+remove_volume_requires : tie.Need-remove-volume-requires
+remove_volume_requires c κs = (sym c.before.before.volumes_formed.ensures ∙ not-false _ c.before.if1.false)
 
-same-length-2 : tie.Need-same-length-2
-same-length-2 c = search rules
+same_length_2 : tie.Need-same-length-2
+same_length_2 c = search rules
 
-returns-2 : tie.Need-returns-2
-returns-2 c = changed volumeBytes c.before.before.before.before.before.before.before.before.args.volumes.now _ _ _ (delete-is c.before.before.before.before.before.before.before.before.args.volumes.now c.before.before.before.before.before.before.before.before.args.vid (sym c.before.before.before.before.before.volumes-formed.ensures ∙ not-false _ c.before.before.before.before.if1.false)) c.before.before.remove-volume.ensures
+returns_2 : tie.Need-returns-2
+returns_2 c = changed volume_bytes c.before.before.before.before.before.before.before.before.args.volumes.now _ _ _ (delete_is c.before.before.before.before.before.before.before.before.args.volumes.now c.before.before.before.before.before.before.before.before.args.vid (sym c.before.before.before.before.before.volumes_formed.ensures ∙ not-false _ c.before.before.before.before.if1.false)) c.before.before.remove-volume.ensures
 
-pub volume-delete-spec : {M : Type 1} → statement M
-volume-delete-spec =
+pub volume_delete_spec : {M : Type 1} → statement M
+volume_delete_spec =
     tie.close
     (tie.spec
-    volumes-formed-requires
+    volumes_formed_requires
     same_length
     returns
-    remove-volume-requires
-    same-length-2
-    returns-2)
+    remove_volume_requires
+    same_length_2
+    returns_2)

@@ -3,14 +3,14 @@ use Rattle.std.proofs.Common.{rules}
 use Rattle.volumes.proofs.volume_row.Statement.{statement}
 use Rattle.volumes.proofs.volume_row.Tie as tie
 
-slice-aggregate-put-out : tie.Need-slice-aggregate-put-out
-slice-aggregate-put-out c = search rules
+slice_aggregate_put_out : tie.Need-slice-aggregate-put-out
+slice_aggregate_put_out c = search rules
 
-put-out-requires : tie.Need-put-out-requires
-put-out-requires c κs = search rules
+put_out_requires : tie.Need-put-out-requires
+put_out_requires c κs = search rules
 
 returns : tie.Need-returns
 returns c = c.before.put-out.ensures
 
-pub volume-row-spec : {M : Type 1} → statement M
-volume-row-spec = tie.close (tie.spec slice-aggregate-put-out put-out-requires returns)
+pub volume_row_spec : {M : Type 1} → statement M
+volume_row_spec = tie.close (tie.spec slice_aggregate_put_out put_out_requires returns)

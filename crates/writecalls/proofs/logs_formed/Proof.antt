@@ -3,34 +3,34 @@ use Rattle.std.proofs.Common.{sym, ◌∙◌, rules}
 use borrow.Author.Tests.{not-true, not-false}
 use Rattle.rules.proofs.TableLaws.{and_both}
 use Rattle.layout.proofs.PlaceLaws.{stops, goes_on}
-use Rattle.writecalls.specs.Written.{logsOk}
+use Rattle.writecalls.specs.Written.{logs_ok}
 use Rattle.writecalls.proofs.logs_formed.Statement.{statement}
 use Rattle.writecalls.proofs.logs_formed.Tie as tie
 
-commits-formed-requires : tie.Need-commits-formed-requires
-commits-formed-requires c κs = search rules
+commits_formed_requires : tie.Need-commits-formed-requires
+commits_formed_requires c κs = search rules
 
 returns : tie.Need-returns
-unfolding logsOk
-returns c = stops _ (sym (stops _ (sym c.before.commits-formed.ensures ∙ not-true _ c.if1.true)))
+unfolding logs_ok
+returns c = stops _ (sym (stops _ (sym c.before.commits_formed.ensures ∙ not-true _ c.if1.true)))
 
-checkpoints-formed-requires : tie.Need-checkpoints-formed-requires
-checkpoints-formed-requires c κs = search rules
+checkpoints_formed_requires : tie.Need-checkpoints-formed-requires
+checkpoints_formed_requires c κs = search rules
 
-returns-2 : tie.Need-returns-2
-unfolding logsOk
-returns-2 c =
-    stops _ (sym (goes_on _ _ (sym c.before.before.before.commits-formed.ensures ∙ not-false _ c.before.before.if1.false) (sym (sym c.before.checkpoints-formed.ensures ∙ not-true _ c.if2.true))))
+returns_2 : tie.Need-returns-2
+unfolding logs_ok
+returns_2 c =
+    stops _ (sym (goes_on _ _ (sym c.before.before.before.commits_formed.ensures ∙ not-false _ c.before.before.if1.false) (sym (sym c.before.checkpoints-formed.ensures ∙ not-true _ c.if2.true))))
 
-index-formed-requires : tie.Need-index-formed-requires
-index-formed-requires c κs = search rules
+index_formed_requires : tie.Need-index-formed-requires
+index_formed_requires c κs = search rules
 
-returns-3 : tie.Need-returns-3
-unfolding logsOk
-returns-3 c =
+returns_3 : tie.Need-returns-3
+unfolding logs_ok
+returns_3 c =
     goes_on _ _
-    (and_both (sym c.before.before.before.before.commits-formed.ensures ∙ not-false _ c.before.before.before.if1.false) (sym c.before.before.checkpoints-formed.ensures ∙ not-false _ c.before.if2.false))
-    c.index-formed.ensures
+    (and_both (sym c.before.before.before.before.commits_formed.ensures ∙ not-false _ c.before.before.before.if1.false) (sym c.before.before.checkpoints-formed.ensures ∙ not-false _ c.before.if2.false))
+    c.index_formed.ensures
 
-pub logs-formed-spec : {M : Type 1} → statement M
-logs-formed-spec = tie.close (tie.spec commits-formed-requires returns checkpoints-formed-requires returns-2 index-formed-requires returns-3)
+pub logs_formed_spec : {M : Type 1} → statement M
+logs_formed_spec = tie.close (tie.spec commits_formed_requires returns checkpoints_formed_requires returns_2 index_formed_requires returns_3)

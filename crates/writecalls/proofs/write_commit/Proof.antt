@@ -1,5 +1,5 @@
 -- A number other than 0 leaves the bytes as found; under 0 all checks have passed, and the write is stored.
-use Rattle.writecalls.proofs.Ends.{Passed, answer, number_is, plan-passed, fresh-passed, Left, unchanged, changed}
+use Rattle.writecalls.proofs.Ends.{Passed, answer, number_is, plan_passed, fresh_passed, Left, unchanged, changed}
 use Rattle.std.proofs.Common.{rules}
 use Rattle.writecalls.proofs.write_commit.Statement.{statement}
 use Rattle.writecalls.proofs.write_commit.Tie as tie
@@ -17,60 +17,60 @@ refusal c =
     unchanged a.commits.now a.checkpoints.now a.index.now p.result.number _ (number_is a.commits.now a.checkpoints.now a.index.now a.c.now p.result p.ensures) c.if1.true
 
 -- under 0 all checks have passed
-all-passed : (c : tie.Else1) → let a = (start c.before).args in Passed a.commits.now a.checkpoints.now a.index.now a.c.now
-all-passed c =
+all_passed : (c : tie.Else1) → let a = (start c.before).args in Passed a.commits.now a.checkpoints.now a.index.now a.c.now
+all_passed c =
     let a = (start c.before).args in
     let p = c.before.write-plan in
-    plan-passed a.commits.now a.checkpoints.now a.index.now a.c.now p.result p.ensures c.if1.false
+    plan_passed a.commits.now a.checkpoints.now a.index.now a.c.now p.result p.ensures c.if1.false
 
-write-plan-requires : tie.Need-write-plan-requires
-write-plan-requires c κs = search rules
+write_plan_requires : tie.Need-write-plan-requires
+write_plan_requires c κs = search rules
 
 same_length : tie.Need-same-length
 same_length c = search rules
 
-same-length-2 : tie.Need-same-length-2
-same-length-2 c = search rules
+same_length_2 : tie.Need-same-length-2
+same_length_2 c = search rules
 
-same-length-3 : tie.Need-same-length-3
-same-length-3 c = search rules
+same_length_3 : tie.Need-same-length-3
+same_length_3 c = search rules
 
 returns : tie.Need-returns
 returns c = refusal c
 
-write-fresh-requires : tie.Need-write-fresh-requires
-write-fresh-requires c κs =
+write_fresh_requires : tie.Need-write-fresh-requires
+write_fresh_requires c κs =
     let a = (start c.before.before.before.before).args in
     let p = c.before.before.before.before.write-plan in
-    let q = all-passed c.before.before.before in
-    (q.forms, (q.commit, (q.room, fresh-passed a.commits.now a.checkpoints.now a.index.now a.c.now p.result p.ensures c.before.before.before.if1.false)))
+    let q = all_passed c.before.before.before in
+    (q.forms, (q.commit, (q.room, fresh_passed a.commits.now a.checkpoints.now a.index.now a.c.now p.result p.ensures c.before.before.before.if1.false)))
 
-same-length-4 : tie.Need-same-length-4
-same-length-4 c = search rules
+same_length_4 : tie.Need-same-length-4
+same_length_4 c = search rules
 
-same-length-5 : tie.Need-same-length-5
-same-length-5 c = search rules
+same_length_5 : tie.Need-same-length-5
+same_length_5 c = search rules
 
-same-length-6 : tie.Need-same-length-6
-same-length-6 c = search rules
+same_length_6 : tie.Need-same-length-6
+same_length_6 c = search rules
 
-returns-2 : tie.Need-returns-2
-returns-2 c =
+returns_2 : tie.Need-returns-2
+returns_2 c =
     let a = (start c.before.before.before.before.before.before.before.before.before.before.before).args in
     let w = c.before.before.before.before.before.before.write-fresh in
-    changed a.commits.now a.checkpoints.now a.index.now _ _ (all-passed c.before.before.before.before.before.before.before.before.before.before).answers _ _ _ w.ensures.0 w.ensures.1.0 w.ensures.1.1
+    changed a.commits.now a.checkpoints.now a.index.now _ _ (all_passed c.before.before.before.before.before.before.before.before.before.before).answers _ _ _ w.ensures.0 w.ensures.1.0 w.ensures.1.1
 
-pub write-commit-spec : {M : Type 1} → statement M
-write-commit-spec =
+pub write_commit_spec : {M : Type 1} → statement M
+write_commit_spec =
     tie.close
     (tie.spec
-    write-plan-requires
+    write_plan_requires
     same_length
-    same-length-2
-    same-length-3
+    same_length_2
+    same_length_3
     returns
-    write-fresh-requires
-    same-length-4
-    same-length-5
-    same-length-6
-    returns-2)
+    write_fresh_requires
+    same_length_4
+    same_length_5
+    same_length_6
+    returns_2)

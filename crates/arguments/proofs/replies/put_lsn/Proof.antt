@@ -3,17 +3,17 @@ use Rattle.std.proofs.Common.{rules}
 use Rattle.arguments.proofs.replies.put_lsn.Statement.{statement}
 use Rattle.arguments.proofs.replies.put_lsn.Tie as tie
 
-enum-known-a : tie.Need-enum-known-a
-enum-known-a c = search rules
+enum_known_a : tie.Need-enum-known-a
+enum_known_a c = search rules
 
-enum-known-a-2 : tie.Need-enum-known-a-2
-enum-known-a-2 c = search rules
+enum_known_a_2 : tie.Need-enum-known-a-2
+enum_known_a_2 c = search rules
 
 returns : tie.Need-returns
 returns c = rw c.before.a.given.1
 
-returns-2 : tie.Need-returns-2
-returns-2 c = rw c.before.a2.given.1
+returns_2 : tie.Need-returns-2
+returns_2 c = rw c.before.a2.given.1
 
-pub put-lsn-spec : {M : Type 1} → statement M
-put-lsn-spec = tie.close (tie.spec enum-known-a enum-known-a-2 returns returns-2)
+pub put_lsn_spec : {M : Type 1} → statement M
+put_lsn_spec = tie.close (tie.spec enum_known_a enum_known_a_2 returns returns_2)

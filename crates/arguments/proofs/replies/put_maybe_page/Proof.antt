@@ -3,8 +3,8 @@ use Rattle.std.proofs.Common.{rules}
 use Rattle.arguments.proofs.replies.put_maybe_page.Statement.{statement}
 use Rattle.arguments.proofs.replies.put_maybe_page.Tie as tie
 
-enum-known-a : tie.Need-enum-known-a
-enum-known-a c = search rules
+enum_known_a : tie.Need-enum-known-a
+enum_known_a c = search rules
 
 enum_told : tie.Need-enum-told
 enum_told c = search rules
@@ -12,8 +12,8 @@ enum_told c = search rules
 returns : tie.Need-returns
 returns c = rw c.before.a.given.1
 
-returns-2 : tie.Need-returns-2
-returns-2 c = rw c.enum_told.given.1
+returns_2 : tie.Need-returns-2
+returns_2 c = rw c.enum_told.given.1
 
-pub put-maybe-page-spec : {M : Type 1} → statement M
-put-maybe-page-spec = tie.close (tie.spec enum-known-a enum_told returns returns-2)
+pub put_maybe_page_spec : {M : Type 1} → statement M
+put_maybe_page_spec = tie.close (tie.spec enum_known_a enum_told returns returns_2)

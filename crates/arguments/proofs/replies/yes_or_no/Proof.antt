@@ -3,24 +3,24 @@ use Rattle.std.proofs.Common.{rules}
 use Rattle.arguments.proofs.replies.yes_or_no.Statement.{statement}
 use Rattle.arguments.proofs.replies.yes_or_no.Tie as tie
 
-enum-known-a : tie.Need-enum-known-a
-enum-known-a c = search rules
+enum_known_a : tie.Need-enum-known-a
+enum_known_a c = search rules
 
 enum_told : tie.Need-enum-told
 enum_told c = search rules
 
-enum-told-2 : tie.Need-enum-told-2
-enum-told-2 c = search rules
+enum_told_2 : tie.Need-enum-told-2
+enum_told_2 c = search rules
 
 returns : tie.Need-returns
 returns c = rw c.before.a.given.1
 
-returns-2 : tie.Need-returns-2
-returns-2 c = rw c.enum_told.given.1
+returns_2 : tie.Need-returns-2
+returns_2 c = rw c.enum_told.given.1
 
-returns-3 : tie.Need-returns-3
-returns-3 c = rw c.enum-told2.given.1
+returns_3 : tie.Need-returns-3
+returns_3 c = rw c.enum-told2.given.1
 
-pub yes-or-no-spec : {M : Type 1} → statement M
-yes-or-no-spec =
-    tie.close (tie.spec enum-known-a enum_told enum-told-2 returns returns-2 returns-3)
+pub yes_or_no_spec : {M : Type 1} → statement M
+yes_or_no_spec =
+    tie.close (tie.spec enum_known_a enum_told enum_told_2 returns returns_2 returns_3)

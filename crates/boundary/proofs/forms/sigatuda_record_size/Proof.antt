@@ -1,62 +1,62 @@
 -- Each table has its size, and no other number has one. Assumes nothing.
 use Rattle.std.proofs.Common.{arith, rules}
-use Rattle.boundary.proofs.FormatLaws.{size-at, size-past}
+use Rattle.boundary.proofs.FormatLaws.{size_at, size_past}
 use Rattle.boundary.proofs.forms.sigatuda_record_size.Statement.{statement}
 use Rattle.boundary.proofs.forms.sigatuda_record_size.Tie as tie
 
-cast-result : tie.Need-overflow-cast-result
-cast-result c = search rules
+cast_result : tie.Need-overflow-cast-result
+cast_result c = search rules
 
-cast-result-2 : tie.Need-overflow-cast-result-2
-cast-result-2 c = search rules
+cast_result_2 : tie.Need-overflow-cast-result-2
+cast_result_2 c = search rules
 
-cast-result-3 : tie.Need-overflow-cast-result-3
-cast-result-3 c = search rules
+cast_result_3 : tie.Need-overflow-cast-result-3
+cast_result_3 c = search rules
 
-cast-result-4 : tie.Need-overflow-cast-result-4
-cast-result-4 c = search rules
+cast_result_4 : tie.Need-overflow-cast-result-4
+cast_result_4 c = search rules
 
-cast-result-5 : tie.Need-overflow-cast-result-5
-cast-result-5 c = search rules
+cast_result_5 : tie.Need-overflow-cast-result-5
+cast_result_5 c = search rules
 
-cast-result-6 : tie.Need-overflow-cast-result-6
-cast-result-6 c = search rules
+cast_result_6 : tie.Need-overflow-cast-result-6
+cast_result_6 c = search rules
 
 returns : tie.Need-returns
-returns c = size-at _ 0 c.match.keys1
+returns c = size_at _ 0 c.match.keys1
 
-returns-2 : tie.Need-returns-2
-returns-2 c = size-at _ 1 c.match.keys2
+returns_2 : tie.Need-returns-2
+returns_2 c = size_at _ 1 c.match.keys2
 
-returns-3 : tie.Need-returns-3
-returns-3 c = size-at _ 2 c.match.keys3
+returns_3 : tie.Need-returns-3
+returns_3 c = size_at _ 2 c.match.keys3
 
-returns-4 : tie.Need-returns-4
-returns-4 c = size-at _ 3 c.match.keys4
+returns_4 : tie.Need-returns-4
+returns_4 c = size_at _ 3 c.match.keys4
 
-returns-5 : tie.Need-returns-5
-returns-5 c = size-at _ 4 c.match.keys5
+returns_5 : tie.Need-returns-5
+returns_5 c = size_at _ 4 c.match.keys5
 
-returns-6 : tie.Need-returns-6
-returns-6 c = size-at _ 5 c.match.keys6
+returns_6 : tie.Need-returns-6
+returns_6 c = size_at _ 5 c.match.keys6
 
-returns-7 : tie.Need-returns-7
-returns-7 c = size-past _ (omega arith)
+returns_7 : tie.Need-returns-7
+returns_7 c = size_past _ (omega arith)
 
-pub sigatuda-record-size-spec : {M : Type 1} → statement M
-sigatuda-record-size-spec =
+pub sigatuda_record_size_spec : {M : Type 1} → statement M
+sigatuda_record_size_spec =
     tie.close
     (tie.spec
-    cast-result
-    cast-result-2
-    cast-result-3
-    cast-result-4
-    cast-result-5
-    cast-result-6
+    cast_result
+    cast_result_2
+    cast_result_3
+    cast_result_4
+    cast_result_5
+    cast_result_6
     returns
-    returns-2
-    returns-3
-    returns-4
-    returns-5
-    returns-6
-    returns-7)
+    returns_2
+    returns_3
+    returns_4
+    returns_5
+    returns_6
+    returns_7)

@@ -4,14 +4,14 @@ use Rattle.arguments.specs.Replies.{value}
 use Rattle.boundary.proofs.numbers.sigatuda_page_prev.Statement.{statement}
 use Rattle.boundary.proofs.numbers.sigatuda_page_prev.Tie as tie
 
-saturating-prev-requires : tie.Need-saturating-prev-requires
-saturating-prev-requires c κs = search rules
+saturating_prev_requires : tie.Need-saturating-prev-requires
+saturating_prev_requires c κs = search rules
 
-put-page-requires : tie.Need-put-page-requires
-put-page-requires c κs = search rules
+put_page_requires : tie.Need-put-page-requires
+put_page_requires c κs = search rules
 
 returns : tie.Need-returns
 returns c = c.put-page.ensures ∙ ap (value (λ m. m) _) c.before.before.saturating-prev.ensures
 
-pub sigatuda-page-prev-spec : {M : Type 1} → statement M
-sigatuda-page-prev-spec = tie.close (tie.spec saturating-prev-requires put-page-requires returns)
+pub sigatuda_page_prev_spec : {M : Type 1} → statement M
+sigatuda_page_prev_spec = tie.close (tie.spec saturating_prev_requires put_page_requires returns)

@@ -1,20 +1,20 @@
 -- The call answers the rule's number and leaves the table that the rule says; the number is put as the reply. Assumes nothing.
 use Rattle.std.proofs.Common.{ap, ◌∙◌, rules}
-use Rattle.arguments.specs.Replies.{numberedReply}
+use Rattle.arguments.specs.Replies.{numbered_reply}
 use Rattle.boundary.proofs.pagecall.sigatuda_pages_remove.Statement.{statement}
 use Rattle.boundary.proofs.pagecall.sigatuda_pages_remove.Tie as tie
 
-pages-remove-requires : tie.Need-pages-remove-requires
-pages-remove-requires c κs = search rules
+pages_remove_requires : tie.Need-pages-remove-requires
+pages_remove_requires c κs = search rules
 
-numbered-requires : tie.Need-numbered-requires
-numbered-requires c κs = search rules
+numbered_requires : tie.Need-numbered-requires
+numbered_requires c κs = search rules
 
 same_length : tie.Need-same-length
 same_length c = search rules
 
 returns : tie.Need-returns
-returns c = (c.numbered.ensures ∙ ap numberedReply c.before.before.before.pages-remove.ensures.0, c.before.before.before.pages-remove.ensures.1)
+returns c = (c.numbered.ensures ∙ ap numbered_reply c.before.before.before.pages-remove.ensures.0, c.before.before.before.pages-remove.ensures.1)
 
-pub sigatuda-pages-remove-spec : {M : Type 1} → statement M
-sigatuda-pages-remove-spec = tie.close (tie.spec pages-remove-requires numbered-requires same_length returns)
+pub sigatuda_pages_remove_spec : {M : Type 1} → statement M
+sigatuda_pages_remove_spec = tie.close (tie.spec pages_remove_requires numbered_requires same_length returns)

@@ -1,38 +1,38 @@
 -- The call's number as a reply; the bytes are as the call leaves them.
 use Rattle.std.proofs.Common.{ap, ◌∙◌, rules}
-use Rattle.arguments.specs.Replies.{numberedReply}
+use Rattle.arguments.specs.Replies.{numbered_reply}
 use Rattle.boundary.proofs.pushcall.sigatuda_success.Statement.{statement}
 use Rattle.boundary.proofs.pushcall.sigatuda_success.Tie as tie
 
-success-requires : tie.Need-success-requires
-success-requires c κs = search rules
+success_requires : tie.Need-success-requires
+success_requires c κs = search rules
 
-numbered-requires : tie.Need-numbered-requires
-numbered-requires c κs = search rules
+numbered_requires : tie.Need-numbered-requires
+numbered_requires c κs = search rules
 
 same_length : tie.Need-same-length
 same_length c = search rules
 
-same-length-2 : tie.Need-same-length-2
-same-length-2 c = search rules
+same_length_2 : tie.Need-same-length-2
+same_length_2 c = search rules
 
-same-length-3 : tie.Need-same-length-3
-same-length-3 c = search rules
+same_length_3 : tie.Need-same-length-3
+same_length_3 c = search rules
 
-same-length-4 : tie.Need-same-length-4
-same-length-4 c = search rules
+same_length_4 : tie.Need-same-length-4
+same_length_4 c = search rules
 
 returns : tie.Need-returns
-returns c = (c.numbered.ensures ∙ ap numberedReply c.before.before.before.before.before.before.before.before.before.success.ensures.0, c.before.before.before.before.before.before.before.before.before.success.ensures.1)
+returns c = (c.numbered.ensures ∙ ap numbered_reply c.before.before.before.before.before.before.before.before.before.success.ensures.0, c.before.before.before.before.before.before.before.before.before.success.ensures.1)
 
-pub sigatuda-success-spec : {M : Type 1} → statement M
-sigatuda-success-spec =
+pub sigatuda_success_spec : {M : Type 1} → statement M
+sigatuda_success_spec =
     tie.close
     (tie.spec
-    success-requires
-    numbered-requires
+    success_requires
+    numbered_requires
     same_length
-    same-length-2
-    same-length-3
-    same-length-4
+    same_length_2
+    same_length_3
+    same_length_4
     returns)

@@ -1,24 +1,24 @@
 -- The arguments are read, the call by value answers the rule on them, and the set of its answer is put in bytes. Assumes nothing.
 use Rattle.std.proofs.Common.{ap, ◌∙◌, rules}
 use Rattle.pageset.specs.declared.PageSet.{PageSet}
-use Rattle.pageset.specs.Rules.{allRule}
-use Rattle.arguments.specs.Replies.{yesOrNo}
+use Rattle.pageset.specs.Rules.{all_rule}
+use Rattle.arguments.specs.Replies.{yes_or_no}
 use Rattle.boundary.proofs.sets.sigatuda_set_contains_all.Statement.{statement}
 use Rattle.boundary.proofs.sets.sigatuda_set_contains_all.Tie as tie
 
-set-arg-requires : tie.Need-set-arg-requires
-set-arg-requires c κs = search rules
+set_arg_requires : tie.Need-set-arg-requires
+set_arg_requires c κs = search rules
 
-contains-all-requires : tie.Need-contains-all-requires
-contains-all-requires c κs = search rules
+contains_all_requires : tie.Need-contains-all-requires
+contains_all_requires c κs = search rules
 
-yes-or-no-requires : tie.Need-yes-or-no-requires
-yes-or-no-requires c κs = search rules
+yes_or_no_requires : tie.Need-yes-or-no-requires
+yes_or_no_requires c κs = search rules
 
 returns : tie.Need-returns
 returns c =
-    c.yes_or_no.ensures ∙ ap yesOrNo (c.before.contains-all.ensures ∙ ap (λ (s : PageSet). allRule s c.before.before.before.before.args.first c.before.before.before.before.args.last) c.before.before.set-arg.ensures)
+    c.yes_or_no.ensures ∙ ap yes_or_no (c.before.contains-all.ensures ∙ ap (λ (s : PageSet). all_rule s c.before.before.before.before.args.first c.before.before.before.before.args.last) c.before.before.set-arg.ensures)
 
-pub sigatuda-set-contains-all-spec : {M : Type 1} → statement M
-sigatuda-set-contains-all-spec =
-    tie.close (tie.spec set-arg-requires contains-all-requires yes-or-no-requires returns)
+pub sigatuda_set_contains_all_spec : {M : Type 1} → statement M
+sigatuda_set_contains_all_spec =
+    tie.close (tie.spec set_arg_requires contains_all_requires yes_or_no_requires returns)

@@ -1,17 +1,17 @@
 -- The check of the table, then its reply.
 use Rattle.std.proofs.Common.{ap, ◌∙◌, rules}
-use Rattle.boundary.specs.Tables.{formedReply}
+use Rattle.boundary.specs.Tables.{formed_reply}
 use Rattle.boundary.proofs.tables.sigatuda_checkpoints_formed.Statement.{statement}
 use Rattle.boundary.proofs.tables.sigatuda_checkpoints_formed.Tie as tie
 
-checkpoints-formed-requires : tie.Need-checkpoints-formed-requires
-checkpoints-formed-requires c κs = search rules
+checkpoints_formed_requires : tie.Need-checkpoints-formed-requires
+checkpoints_formed_requires c κs = search rules
 
-formed-reply-requires : tie.Need-formed-reply-requires
-formed-reply-requires c κs = search rules
+formed_reply_requires : tie.Need-formed-reply-requires
+formed_reply_requires c κs = search rules
 
 returns : tie.Need-returns
-returns c = c.formed-reply.ensures ∙ ap formedReply c.before.checkpoints-formed.ensures
+returns c = c.formed-reply.ensures ∙ ap formed_reply c.before.checkpoints-formed.ensures
 
-pub sigatuda-checkpoints-formed-spec : {M : Type 1} → statement M
-sigatuda-checkpoints-formed-spec = tie.close (tie.spec checkpoints-formed-requires formed-reply-requires returns)
+pub sigatuda_checkpoints_formed_spec : {M : Type 1} → statement M
+sigatuda_checkpoints_formed_spec = tie.close (tie.spec checkpoints_formed_requires formed_reply_requires returns)

@@ -1,17 +1,17 @@
 -- The check of the table, then its reply.
 use Rattle.std.proofs.Common.{ap, ◌∙◌, rules}
-use Rattle.boundary.specs.Tables.{formedReply}
+use Rattle.boundary.specs.Tables.{formed_reply}
 use Rattle.boundary.proofs.tables.sigatuda_commits_formed.Statement.{statement}
 use Rattle.boundary.proofs.tables.sigatuda_commits_formed.Tie as tie
 
-commits-formed-requires : tie.Need-commits-formed-requires
-commits-formed-requires c κs = search rules
+commits_formed_requires : tie.Need-commits-formed-requires
+commits_formed_requires c κs = search rules
 
-formed-reply-requires : tie.Need-formed-reply-requires
-formed-reply-requires c κs = search rules
+formed_reply_requires : tie.Need-formed-reply-requires
+formed_reply_requires c κs = search rules
 
 returns : tie.Need-returns
-returns c = c.formed-reply.ensures ∙ ap formedReply c.before.commits-formed.ensures
+returns c = c.formed-reply.ensures ∙ ap formed_reply c.before.commits_formed.ensures
 
-pub sigatuda-commits-formed-spec : {M : Type 1} → statement M
-sigatuda-commits-formed-spec = tie.close (tie.spec commits-formed-requires formed-reply-requires returns)
+pub sigatuda_commits_formed_spec : {M : Type 1} → statement M
+sigatuda_commits_formed_spec = tie.close (tie.spec commits_formed_requires formed_reply_requires returns)

@@ -1,17 +1,17 @@
 -- The check of the table, then its reply.
 use Rattle.std.proofs.Common.{ap, ◌∙◌, rules}
-use Rattle.boundary.specs.Tables.{formedReply}
+use Rattle.boundary.specs.Tables.{formed_reply}
 use Rattle.boundary.proofs.tables.sigatuda_volumes_formed.Statement.{statement}
 use Rattle.boundary.proofs.tables.sigatuda_volumes_formed.Tie as tie
 
-volumes-formed-requires : tie.Need-volumes-formed-requires
-volumes-formed-requires c κs = search rules
+volumes_formed_requires : tie.Need-volumes-formed-requires
+volumes_formed_requires c κs = search rules
 
-formed-reply-requires : tie.Need-formed-reply-requires
-formed-reply-requires c κs = search rules
+formed_reply_requires : tie.Need-formed-reply-requires
+formed_reply_requires c κs = search rules
 
 returns : tie.Need-returns
-returns c = c.formed-reply.ensures ∙ ap formedReply c.before.volumes-formed.ensures
+returns c = c.formed-reply.ensures ∙ ap formed_reply c.before.volumes_formed.ensures
 
-pub sigatuda-volumes-formed-spec : {M : Type 1} → statement M
-sigatuda-volumes-formed-spec = tie.close (tie.spec volumes-formed-requires formed-reply-requires returns)
+pub sigatuda_volumes_formed_spec : {M : Type 1} → statement M
+sigatuda_volumes_formed_spec = tie.close (tie.spec volumes_formed_requires formed_reply_requires returns)

@@ -7,8 +7,8 @@ use Rattle.callline.proofs.fields.is_over.Tie as tie
 returns : tie.Need-returns
 returns c = rw (not-true c.before.before.args.c.good c.if1.true)
 
-returns-2 : tie.Need-returns-2
-returns-2 c = rw (not-false c.before.before.before.args.c.good c.before.if1.false)
+returns_2 : tie.Need-returns-2
+returns_2 c = rw (not-false c.before.before.before.args.c.good c.before.if1.false)
 
-pub is-over-spec : {M : Type 1} → statement M
-is-over-spec = tie.close (tie.spec returns returns-2)
+pub is_over_spec : {M : Type 1} → statement M
+is_over_spec = tie.close (tie.spec returns returns_2)

@@ -8,16 +8,16 @@ returns : tie.Need-returns
 unfolding leads
 returns c = let s = c.before.args.s.now in rw (le-ltb 0 (length s) (omega arith))
 
-returns-2 : tie.Need-returns-2
+returns_2 : tie.Need-returns-2
 unfolding leads
-returns-2 c = let s = c.before.before.args.s.now in rw (lt-ltb 0 (length s) (omega arith), eq-eqb (length s) 1 (omega arith))
+returns_2 c = let s = c.before.before.args.s.now in rw (lt-ltb 0 (length s) (omega arith), eq-eqb (length s) 1 (omega arith))
 
-shared-slice-read-result : tie.Need-shared-slice-read-result
-shared-slice-read-result c = search rules
+shared_slice_read_result : tie.Need-shared-slice-read-result
+shared_slice_read_result c = search rules
 
-returns-3 : tie.Need-returns-3
+returns_3 : tie.Need-returns-3
 unfolding leads
-returns-3 c = let s = c.before.before.before.args.s.now in rw (lt-ltb 0 (length s) (omega arith), ne_eqb (length s) 1 (λ e. omega arith))
+returns_3 c = let s = c.before.before.before.args.s.now in rw (lt-ltb 0 (length s) (omega arith), ne_eqb (length s) 1 (λ e. omega arith))
 
-pub has-lead-spec : {M : Type 1} → statement M
-has-lead-spec = tie.close (tie.spec returns returns-2 shared-slice-read-result returns-3)
+pub has_lead_spec : {M : Type 1} → statement M
+has_lead_spec = tie.close (tie.spec returns returns_2 shared_slice_read_result returns_3)

@@ -1,97 +1,97 @@
 -- `values::is_pages` meets its contract. The invariant: the text is in the form exactly if what is left of it, from a place on, rises above the last page read. The measure: what is left of the text. Assumes nothing.
 use Rattle.std.proofs.Common.{◌≡◌, ◌-◌, ◌≤◌, false, ◌&&◌, ltb, leb, List, length, drop, sym, refl, ap, ◌∙◌, arith, rules, le-ltb, lt-ltb, le-leb}
 use Rattle.callline.specs.Texts.{Text, split}
-use Rattle.callline.specs.Values.{pagesOf, rising}
-use Rattle.callline.specs.Says.{isDone, rangeSays}
+use Rattle.callline.specs.Values.{pages_of, rising}
+use Rattle.callline.specs.Says.{is_done, range_says}
 use Rattle.callline.proofs.TextLaws.{pieces}
-use Rattle.callline.proofs.ValueLaws.{rise-stray, rise-low, rise-falls, rise-last, rise-more, pages-dash, pages-ranges}
+use Rattle.callline.proofs.ValueLaws.{rise_stray, rise_low, rise_falls, rise_last, rise_more, pages_dash, pages_ranges}
 use borrow.Author.Tests.{lt-leb}
-use Rattle.callline.specs.Texts.{split, piecesAfter, between}
-use Rattle.callline.proofs.ValueLaws.{rise-stray, rise-falls, rise-last, rise-more, pages-dash, pages-ranges}
+use Rattle.callline.specs.Texts.{split, pieces_after, between}
+use Rattle.callline.proofs.ValueLaws.{rise_stray, rise_falls, rise_last, rise_more, pages_dash, pages_ranges}
 use Rattle.callline.proofs.values.is_pages.Statement.{statement}
 use Rattle.callline.proofs.values.is_pages.Tie as tie
 
-abbrev invariant-loop : tie.invariant-loop
-invariant-loop s low₀ at₀ low at = (at ≤ length s) × (isDone (pagesOf s) ≡ isDone (rising low (split 44 (drop at s))))
+abbrev invariant_loop : tie.invariant_loop
+invariant_loop s low₀ at₀ low at = (at ≤ length s) × (is_done (pages_of s) ≡ is_done (rising low (split 44 (drop at s))))
 
-abbrev decreases-loop : tie.decreases-loop
-decreases-loop s low₀ at₀ low at = length s - at
+abbrev decreases_loop : tie.decreases_loop
+decreases_loop s low₀ at₀ low at = length s - at
 
-slice-aggregate-is-text : tie.Need-slice-aggregate-is-text invariant-loop decreases-loop
-slice-aggregate-is-text c = search rules
+slice_aggregate_is_text : tie.Need-slice-aggregate-is-text invariant_loop decreases_loop
+slice_aggregate_is_text c = search rules
 
-is-text-requires : tie.Need-is-text-requires invariant-loop decreases-loop
-is-text-requires c κs = search rules
+is_text_requires : tie.Need-is-text-requires invariant_loop decreases_loop
+is_text_requires c κs = search rules
 
-returns : tie.Need-returns invariant-loop decreases-loop
-returns c = sym (pages-dash c.before.before.before.before.args.s.now (sym c.before.is-text.ensures ∙ c.if1.true))
+returns : tie.Need-returns invariant_loop decreases_loop
+returns c = sym (pages_dash c.before.before.before.before.args.s.now (sym c.before.is-text.ensures ∙ c.if1.true))
 
-loop-holds : tie.Need-loop-init invariant-loop decreases-loop
-loop-holds c = (search rules, ap isDone (pages-ranges c.before.before.before.before.args.s.now (sym c.before.is-text.ensures ∙ c.if1.false)))
+loop_holds : tie.Need-loop-init invariant_loop decreases_loop
+loop_holds c = (search rules, ap is_done (pages_ranges c.before.before.before.before.args.s.now (sym c.before.is-text.ensures ∙ c.if1.false)))
 
-piece-end-requires : tie.Need-piece-end-requires invariant-loop decreases-loop
-piece-end-requires c κs = search rules
+piece_end_requires : tie.Need-piece-end-requires invariant_loop decreases_loop
+piece_end_requires c κs = search rules
 
-sub-range : tie.Need-overflow-sub-range invariant-loop decreases-loop
-sub-range c = search rules
+sub_range : tie.Need-overflow-sub-range invariant_loop decreases_loop
+sub_range c = search rules
 
-part-range-start : tie.Need-slice-bounds-range-start invariant-loop decreases-loop
-part-range-start c = search rules
+part_range_start : tie.Need-slice-bounds-range-start invariant_loop decreases_loop
+part_range_start c = search rules
 
-part-range-end : tie.Need-slice-bounds-range-end invariant-loop decreases-loop
-part-range-end c = search rules
+part_range_end : tie.Need-slice-bounds-range-end invariant_loop decreases_loop
+part_range_end c = search rules
 
-range-requires : tie.Need-range-requires invariant-loop decreases-loop
-range-requires c κs = search rules
+range_requires : tie.Need-range-requires invariant_loop decreases_loop
+range_requires c κs = search rules
 
-enum-known-first : tie.Need-enum-known-first invariant-loop decreases-loop
-enum-known-first c = search rules
+enum_known_first : tie.Need-enum-known-first invariant_loop decreases_loop
+enum_known_first c = search rules
 
-enum_told : tie.Need-enum-told invariant-loop decreases-loop
+enum_told : tie.Need-enum-told invariant_loop decreases_loop
 enum_told c = search rules
 
-returns-2 : tie.Need-returns-2 invariant-loop decreases-loop
-returns-2 c = let s = c.before.before.before.before.before.before.before.before.before.before.args.s.now in let l = c.before.before.before.before.before.loop in let e = c.before.before.before.before.piece-end.result in let here = l.invariant.1 ∙ ap (λ (ps : List Text). isDone (rising l.low ps)) (pieces 44 s l.at e l.invariant.0 c.before.before.before.before.piece-end.ensures.0) in sym (here ∙ rise-stray l.low _ _ (sym c.before.before.range.ensures ∙ ap rangeSays c.enum_told.given.1))
+returns_2 : tie.Need-returns-2 invariant_loop decreases_loop
+returns_2 c = let s = c.before.before.before.before.before.before.before.before.before.before.args.s.now in let l = c.before.before.before.before.before.loop in let e = c.before.before.before.before.piece-end.result in let here = l.invariant.1 ∙ ap (λ (ps : List Text). is_done (rising l.low ps)) (pieces 44 s l.at e l.invariant.0 c.before.before.before.before.piece-end.ensures.0) in sym (here ∙ rise_stray l.low _ _ (sym c.before.before.range.ensures ∙ ap range_says c.enum_told.given.1))
 
-returns-3 : tie.Need-returns-3 invariant-loop decreases-loop
-returns-3 c = let s = c.before.before.before.before.before.before.before.before.before.before.before.before.args.s.now in let l = c.before.before.before.before.before.before.before.loop in let e = c.before.before.before.before.before.before.piece-end.result in let here = l.invariant.1 ∙ ap (λ (ps : List Text). isDone (rising l.low ps)) (pieces 44 s l.at e l.invariant.0 c.before.before.before.before.before.before.piece-end.ensures.0) in sym (here ∙ rise-low l.low _ _ _ _ (sym c.before.before.before.before.range.ensures ∙ ap rangeSays c.before.before.first.given.1) (omega arith))
+returns_3 : tie.Need-returns-3 invariant_loop decreases_loop
+returns_3 c = let s = c.before.before.before.before.before.before.before.before.before.before.before.before.args.s.now in let l = c.before.before.before.before.before.before.before.loop in let e = c.before.before.before.before.before.before.piece-end.result in let here = l.invariant.1 ∙ ap (λ (ps : List Text). is_done (rising l.low ps)) (pieces 44 s l.at e l.invariant.0 c.before.before.before.before.before.before.piece-end.ensures.0) in sym (here ∙ rise_low l.low _ _ _ _ (sym c.before.before.before.before.range.ensures ∙ ap range_says c.before.before.first.given.1) (omega arith))
 
-returns-4 : tie.Need-returns-4 invariant-loop decreases-loop
-returns-4 c = let s = c.before.before.before.before.before.before.before.before.before.before.before.before.before.args.s.now in let l = c.before.before.before.before.before.before.before.before.loop in let e = c.before.before.before.before.before.before.before.piece-end.result in let here = l.invariant.1 ∙ ap (λ (ps : List Text). isDone (rising l.low ps)) (pieces 44 s l.at e l.invariant.0 c.before.before.before.before.before.before.before.piece-end.ensures.0) in sym (here ∙ rise-falls l.low _ _ _ _ (sym c.before.before.before.before.before.range.ensures ∙ ap rangeSays c.before.before.before.first.given.1) (omega arith))
+returns_4 : tie.Need-returns-4 invariant_loop decreases_loop
+returns_4 c = let s = c.before.before.before.before.before.before.before.before.before.before.before.before.before.args.s.now in let l = c.before.before.before.before.before.before.before.before.loop in let e = c.before.before.before.before.before.before.before.piece-end.result in let here = l.invariant.1 ∙ ap (λ (ps : List Text). is_done (rising l.low ps)) (pieces 44 s l.at e l.invariant.0 c.before.before.before.before.before.before.before.piece-end.ensures.0) in sym (here ∙ rise_falls l.low _ _ _ _ (sym c.before.before.before.before.before.range.ensures ∙ ap range_says c.before.before.before.first.given.1) (omega arith))
 
-returns-5 : tie.Need-returns-5 invariant-loop decreases-loop
-returns-5 c = let s = c.before.before.before.before.before.before.before.before.before.before.before.before.before.before.args.s.now in let l = c.before.before.before.before.before.before.before.before.before.loop in let e = c.before.before.before.before.before.before.before.before.piece-end.result in let here = l.invariant.1 ∙ ap (λ (ps : List Text). isDone (rising l.low ps)) (pieces 44 s l.at e l.invariant.0 c.before.before.before.before.before.before.before.before.piece-end.ensures.0) in sym (here ∙ rise-last l.low _ s e _ _ (sym c.before.before.before.before.before.before.range.ensures ∙ ap rangeSays c.before.before.before.before.first.given.1) (omega arith) (omega arith) (omega arith))
+returns_5 : tie.Need-returns-5 invariant_loop decreases_loop
+returns_5 c = let s = c.before.before.before.before.before.before.before.before.before.before.before.before.before.before.args.s.now in let l = c.before.before.before.before.before.before.before.before.before.loop in let e = c.before.before.before.before.before.before.before.before.piece-end.result in let here = l.invariant.1 ∙ ap (λ (ps : List Text). is_done (rising l.low ps)) (pieces 44 s l.at e l.invariant.0 c.before.before.before.before.before.before.before.before.piece-end.ensures.0) in sym (here ∙ rise_last l.low _ s e _ _ (sym c.before.before.before.before.before.before.range.ensures ∙ ap range_says c.before.before.before.before.first.given.1) (omega arith) (omega arith) (omega arith))
 
-add_at : tie.Need-overflow-add-at invariant-loop decreases-loop
+add_at : tie.Need-overflow-add-at invariant_loop decreases_loop
 add_at c = search rules
 
-loop-less : tie.Need-loop-smaller invariant-loop decreases-loop
-loop-less c = search rules
+loop_less : tie.Need-loop-smaller invariant_loop decreases_loop
+loop_less c = search rules
 
-loop-again : tie.Need-loop-preserved invariant-loop decreases-loop
-loop-again c = let s = c.before.before.before.before.before.before.before.before.before.before.before.before.before.before.args.s.now in let l = c.before.before.before.before.before.before.before.before.before.loop in let e = c.before.before.before.before.before.before.before.before.piece-end.result in let here = l.invariant.1 ∙ ap (λ (ps : List Text). isDone (rising l.low ps)) (pieces 44 s l.at e l.invariant.0 c.before.before.before.before.before.before.before.before.piece-end.ensures.0) in (omega arith, here ∙ rise-more l.low _ s e _ _ (sym c.before.before.before.before.before.before.range.ensures ∙ ap rangeSays c.before.before.before.before.first.given.1) (omega arith) (omega arith) (omega arith))
+loop_again : tie.Need-loop-preserved invariant_loop decreases_loop
+loop_again c = let s = c.before.before.before.before.before.before.before.before.before.before.before.before.before.before.args.s.now in let l = c.before.before.before.before.before.before.before.before.before.loop in let e = c.before.before.before.before.before.before.before.before.piece-end.result in let here = l.invariant.1 ∙ ap (λ (ps : List Text). is_done (rising l.low ps)) (pieces 44 s l.at e l.invariant.0 c.before.before.before.before.before.before.before.before.piece-end.ensures.0) in (omega arith, here ∙ rise_more l.low _ s e _ _ (sym c.before.before.before.before.before.before.range.ensures ∙ ap range_says c.before.before.before.before.first.given.1) (omega arith) (omega arith) (omega arith))
 
-pub is-pages-spec : {M : Type 1} → statement M
-is-pages-spec =
+pub is_pages_spec : {M : Type 1} → statement M
+is_pages_spec =
     tie.close
     (tie.spec
-    invariant-loop
-    decreases-loop
-    slice-aggregate-is-text
-    is-text-requires
+    invariant_loop
+    decreases_loop
+    slice_aggregate_is_text
+    is_text_requires
     returns
-    loop-holds
-    piece-end-requires
-    sub-range
-    part-range-start
-    part-range-end
-    range-requires
-    enum-known-first
+    loop_holds
+    piece_end_requires
+    sub_range
+    part_range_start
+    part_range_end
+    range_requires
+    enum_known_first
     enum_told
-    returns-2
-    returns-3
-    returns-4
-    returns-5
+    returns_2
+    returns_3
+    returns_4
+    returns_5
     add_at
-    loop-less
-    loop-again)
+    loop_less
+    loop_again)

@@ -3,41 +3,41 @@ use Rattle.std.proofs.Common.{◌≡◌, ◌^◌, ◌<◌, true, length, get_or,
 use Rattle.pageset.specs.Sets.{shown}
 use Rattle.rules.specs.Records.{Commit}
 use Rattle.layout.specs.Codecs.{Holds}
-use Rattle.layout.specs.Records.{commitBytes}
-use Rattle.setbytes.proofs.LaidLaws.{shown-form}
+use Rattle.layout.specs.Records.{commit_bytes}
+use Rattle.setbytes.proofs.LaidLaws.{shown_form}
 use Rattle.callvalues.specs.Values.{fetched}
-use Rattle.layout.proofs.PlaceLaws.{id-form}
-use Rattle.callvalues.proofs.Fetched.{fetched-held, made-laid, made_bytes}
+use Rattle.layout.proofs.PlaceLaws.{id_form_lem}
+use Rattle.callvalues.proofs.Fetched.{fetched_held, made_laid, made_bytes}
 use Rattle.callvalues.proofs.made.fetched_bytes.Statement.{statement}
 use Rattle.callvalues.proofs.made.fetched_bytes.Tie as tie
 
 abbrev it : tie.Start → Commit
 it c = fetched c.args.log c.args.lsn.0 c.args.count.0 c.args.sid (shown c.args.set)
 
-holds : (c : tie.Start) → Holds commitBytes (it c)
+holds : (c : tie.Start) → Holds commit_bytes (it c)
 holds c =
     let l : Fits w64 c.args.lsn.0 = search rules in
     let n : Fits w32 c.args.count.0 = search rules in
-    fetched-held c.args.log c.args.lsn.0 c.args.count.0 c.args.sid (shown c.args.set)
-    (id-form c.args.log (search rules) (λ j. let f : Fits w8 (get_or c.args.log j 0) = search rules in f.fits))
+    fetched_held c.args.log c.args.lsn.0 c.args.count.0 c.args.sid (shown c.args.set)
+    (id_form_lem c.args.log (search rules) (λ j. let f : Fits w8 (get_or c.args.log j 0) = search rules in f.fits))
     (let h = l.fits in omega arith)
     (let h = n.fits in omega arith)
-    (id-form c.args.sid (search rules) (λ j. let f : Fits w8 (get_or c.args.sid j 0) = search rules in f.fits))
-    (shown-form c.args.set c.requires)
+    (id_form_lem c.args.sid (search rules) (λ j. let f : Fits w8 (get_or c.args.sid j 0) = search rules in f.fits))
+    (shown_form c.args.set c.requires)
 
-fetched-commit-requires : tie.Need-fetched-commit-requires
-fetched-commit-requires c κs = search rules
+fetched_commit_requires : tie.Need-fetched-commit-requires
+fetched_commit_requires c κs = search rules
 
-slice-aggregate-commit-write : tie.Need-slice-aggregate-commit-write
-slice-aggregate-commit-write c = search rules
+slice_aggregate_commit_write : tie.Need-slice-aggregate-commit-write
+slice_aggregate_commit_write c = search rules
 
-commit-write-requires : tie.Need-commit-write-requires
-commit-write-requires c κs = (omega arith, made-laid (it c.before.before) c.before.fetched-commit.result c.before.fetched-commit.ensures)
+commit_write_requires : tie.Need-commit-write-requires
+commit_write_requires c κs = (omega arith, made_laid (it c.before.before) c.before.fetched-commit.result c.before.fetched-commit.ensures)
 
 returns : tie.Need-returns
 returns c = made_bytes (it c.before.before.before.before) c.before.before.before.fetched-commit.result c.before.before.before.fetched-commit.ensures (holds c.before.before.before.before) _ c.before.commit-write.ensures
 
-pub fetched-bytes-spec : {M : Type 1} → statement M
-fetched-bytes-spec =
+pub fetched_bytes_spec : {M : Type 1} → statement M
+fetched_bytes_spec =
     tie.close
-    (tie.spec fetched-commit-requires slice-aggregate-commit-write commit-write-requires returns)
+    (tie.spec fetched_commit_requires slice_aggregate_commit_write commit_write_requires returns)

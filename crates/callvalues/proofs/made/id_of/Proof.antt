@@ -4,12 +4,12 @@ use Rattle.callvalues.specs.Values.{id_of}
 use Rattle.callvalues.proofs.made.id_of.Statement.{statement}
 use Rattle.callvalues.proofs.made.id_of.Tie as tie
 
-array-write-id : tie.Need-array-write-id
-array-write-id c = search rules
+array_write_id : tie.Need-array-write-id
+array_write_id c = search rules
 
 returns : tie.Need-returns
 unfolding id_of
 returns c = refl
 
-pub id-of-spec : {M : Type 1} → statement M
-id-of-spec = tie.close (tie.spec array-write-id returns)
+pub id_of_spec : {M : Type 1} → statement M
+id_of_spec = tie.close (tie.spec array_write_id returns)

@@ -7,12 +7,12 @@ use Rattle.callvalues.proofs.slots.is_set.Tie as tie
 mul_at : tie.Need-overflow-mul-at
 mul_at c = search rules
 
-shared-slice-read-result : tie.Need-shared-slice-read-result
-shared-slice-read-result c = search rules
+shared_slice_read_result : tie.Need-shared-slice-read-result
+shared_slice_read_result c = search rules
 
 returns : tie.Need-returns
 unfolding is_set
 returns c = refl
 
-pub is-set-spec : {M : Type 1} → statement M
-is-set-spec = tie.close (tie.spec mul_at shared-slice-read-result returns)
+pub is_set_spec : {M : Type 1} → statement M
+is_set_spec = tie.close (tie.spec mul_at shared_slice_read_result returns)

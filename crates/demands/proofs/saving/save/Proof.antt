@@ -1,39 +1,39 @@
 -- The call's promise, with the types of its arguments.
 use Rattle.std.proofs.Common.{◌≡◌, true, ◌&&◌, get_or, arith, w8, Fits, rules}
-use Rattle.rules.specs.Forms.{countForm, idForm}
-use Rattle.demands.proofs.After.{typed-by}
-use Rattle.demands.proofs.Frame.{save-keeps}
+use Rattle.rules.specs.Forms.{count_form, id_form}
+use Rattle.demands.proofs.After.{typed_by}
+use Rattle.demands.proofs.Frame.{save_keeps}
 use Rattle.demands.proofs.saving.save.Statement.{statement}
 use Rattle.demands.proofs.saving.save.Tie as tie
 
 -- what the types of the count and of the segment's identifier ensure
-typed : (a : tie.Start) → countForm a.args.count && idForm a.args.t9 ≡ true
-typed a = typed-by a.args.count a.args.t9 (omega (arith, a.ranges.count)) (search rules) (λ j. let f : Fits w8 (get_or a.args.t9 j 0) = search rules in f.fits)
+typed : (a : tie.Start) → count_form a.args.count && id_form a.args.t9 ≡ true
+typed a = typed_by a.args.count a.args.t9 (omega (arith, a.ranges.count)) (search rules) (λ j. let f : Fits w8 (get_or a.args.t9 j 0) = search rules in f.fits)
 
-sigatuda-save-requires : tie.Need-sigatuda-save-requires
-sigatuda-save-requires c κs = search rules
+sigatuda_save_requires : tie.Need-sigatuda-save-requires
+sigatuda_save_requires c κs = search rules
 
 same_length : tie.Need-same-length
 same_length c = search rules
 
-same-length-2 : tie.Need-same-length-2
-same-length-2 c = search rules
+same_length_2 : tie.Need-same-length-2
+same_length_2 c = search rules
 
-same-length-3 : tie.Need-same-length-3
-same-length-3 c = search rules
+same_length_3 : tie.Need-same-length-3
+same_length_3 c = search rules
 
-same-length-4 : tie.Need-same-length-4
-same-length-4 c = search rules
+same_length_4 : tie.Need-same-length-4
+same_length_4 c = search rules
 
-same-length-5 : tie.Need-same-length-5
-same-length-5 c = search rules
+same_length_5 : tie.Need-same-length-5
+same_length_5 c = search rules
 
 returns : tie.Need-returns
 returns c =
     let s = c.before.before.before.before.before.before.before.before.before.before.before.before.before.before.before.before.before.before.before.before.before.before.before.before.before in
     let g = s.args in
-    save-keeps g.volumes.now g.commits.now g.checkpoints.now g.index.now g.presence.now g.vid.now g.snapshot.now g.count g.t9 g.pages.now g.out.now
+    save_keeps g.volumes.now g.commits.now g.checkpoints.now g.index.now g.presence.now g.vid.now g.snapshot.now g.count g.t9 g.pages.now g.out.now
     (typed s) _ _ _ _ _ _ c.before.before.before.before.before.before.before.before.before.before.sigatuda-save.ensures.0 c.before.before.before.before.before.before.before.before.before.before.sigatuda-save.ensures.1
 
-pub save-spec : {M : Type 1} → statement M
-save-spec = tie.close (tie.spec sigatuda-save-requires same_length same-length-2 same-length-3 same-length-4 same-length-5 returns)
+pub save_spec : {M : Type 1} → statement M
+save_spec = tie.close (tie.spec sigatuda_save_requires same_length same_length_2 same_length_3 same_length_4 same_length_5 returns)

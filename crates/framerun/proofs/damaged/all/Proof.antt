@@ -3,51 +3,51 @@ use Rattle.std.proofs.Common.{◌-◌, arith}
 use Rattle.framerun.proofs.damaged.all.Statement.{statement}
 use Rattle.framerun.proofs.damaged.all.Tie as tie
 
-abbrev invariant-loop : tie.invariant-loop
-invariant-loop sum₀ k₀ sum k = Unit {0}
+abbrev invariant_loop : tie.invariant_loop
+invariant_loop sum₀ k₀ sum k = Unit {0}
 
-abbrev decreases-loop : tie.decreases-loop
-decreases-loop sum₀ k₀ sum k = 3 - k
+abbrev decreases_loop : tie.decreases_loop
+decreases_loop sum₀ k₀ sum k = 3 - k
 
-none-requires : tie.Need-none-requires invariant-loop decreases-loop
-none-requires c κs = tt
+none_requires : tie.Need-none-requires invariant_loop decreases_loop
+none_requires c κs = tt
 
-segments-requires : tie.Need-segments-requires invariant-loop decreases-loop
-segments-requires c κs = tt
+segments_requires : tie.Need-segments-requires invariant_loop decreases_loop
+segments_requires c κs = tt
 
-loop-holds : tie.Need-loop-init invariant-loop decreases-loop
-loop-holds c = tt
+loop_holds : tie.Need-loop-init invariant_loop decreases_loop
+loop_holds c = tt
 
-bad-requires : tie.Need-bad-requires invariant-loop decreases-loop
-bad-requires c κs = tt
+bad_requires : tie.Need-bad-requires invariant_loop decreases_loop
+bad_requires c κs = tt
 
-ranges-of-requires : tie.Need-ranges-of-requires invariant-loop decreases-loop
-ranges-of-requires c κs = tt
+ranges_of_requires : tie.Need-ranges-of-requires invariant_loop decreases_loop
+ranges_of_requires c κs = tt
 
-add-k : tie.Need-overflow-add-k invariant-loop decreases-loop
-add-k c = omega arith
+add_k : tie.Need-overflow-add-k invariant_loop decreases_loop
+add_k c = omega arith
 
-loop-less : tie.Need-loop-smaller invariant-loop decreases-loop
-loop-less c = omega arith
+loop_less : tie.Need-loop-smaller invariant_loop decreases_loop
+loop_less c = omega arith
 
-loop-again : tie.Need-loop-preserved invariant-loop decreases-loop
-loop-again c = tt
+loop_again : tie.Need-loop-preserved invariant_loop decreases_loop
+loop_again c = tt
 
-returns : tie.Need-returns invariant-loop decreases-loop
+returns : tie.Need-returns invariant_loop decreases_loop
 returns c = tt
 
-pub all-spec : {M : Type 1} → statement M
-all-spec =
+pub all_spec : {M : Type 1} → statement M
+all_spec =
     tie.close
     (tie.spec
-    invariant-loop
-    decreases-loop
-    none-requires
-    segments-requires
-    loop-holds
-    bad-requires
-    ranges-of-requires
-    add-k
-    loop-less
-    loop-again
+    invariant_loop
+    decreases_loop
+    none_requires
+    segments_requires
+    loop_holds
+    bad_requires
+    ranges_of_requires
+    add_k
+    loop_less
+    loop_again
     returns)

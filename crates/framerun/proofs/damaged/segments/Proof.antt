@@ -3,59 +3,59 @@ use Rattle.std.proofs.Common.{◌-◌, arith}
 use Rattle.framerun.proofs.damaged.segments.Statement.{statement}
 use Rattle.framerun.proofs.damaged.segments.Tie as tie
 
-abbrev invariant-loop : tie.invariant-loop
-invariant-loop sum₀ k₀ sum k = Unit {0}
+abbrev invariant_loop : tie.invariant_loop
+invariant_loop sum₀ k₀ sum k = Unit {0}
 
-abbrev decreases-loop : tie.decreases-loop
-decreases-loop sum₀ k₀ sum k = 6 - k
+abbrev decreases_loop : tie.decreases_loop
+decreases_loop sum₀ k₀ sum k = 6 - k
 
-segment-requires : tie.Need-segment-requires invariant-loop decreases-loop
-segment-requires c κs = tt
+segment_requires : tie.Need-segment-requires invariant_loop decreases_loop
+segment_requires c κs = tt
 
-frames-ok-requires : tie.Need-frames-ok-requires invariant-loop decreases-loop
-frames-ok-requires c κs = tt
+frames_ok_requires : tie.Need-frames-ok-requires invariant_loop decreases_loop
+frames_ok_requires c κs = tt
 
-truth-requires : tie.Need-truth-requires invariant-loop decreases-loop
-truth-requires c κs = tt
+truth_requires : tie.Need-truth-requires invariant_loop decreases_loop
+truth_requires c κs = tt
 
-same-requires : tie.Need-same-requires invariant-loop decreases-loop
-same-requires c κs = tt
+same_requires : tie.Need-same-requires invariant_loop decreases_loop
+same_requires c κs = tt
 
-loop-holds : tie.Need-loop-init invariant-loop decreases-loop
-loop-holds c = tt
+loop_holds : tie.Need-loop-init invariant_loop decreases_loop
+loop_holds c = tt
 
-segment-requires-2 : tie.Need-segment-requires-2 invariant-loop decreases-loop
-segment-requires-2 c κs = tt
+segment_requires_2 : tie.Need-segment-requires-2 invariant_loop decreases_loop
+segment_requires_2 c κs = tt
 
-refused-requires : tie.Need-refused-requires invariant-loop decreases-loop
-refused-requires c κs = tt
+refused_requires : tie.Need-refused-requires invariant_loop decreases_loop
+refused_requires c κs = tt
 
-add-k : tie.Need-overflow-add-k invariant-loop decreases-loop
-add-k c = omega arith
+add_k : tie.Need-overflow-add-k invariant_loop decreases_loop
+add_k c = omega arith
 
-loop-less : tie.Need-loop-smaller invariant-loop decreases-loop
-loop-less c = omega arith
+loop_less : tie.Need-loop-smaller invariant_loop decreases_loop
+loop_less c = omega arith
 
-loop-again : tie.Need-loop-preserved invariant-loop decreases-loop
-loop-again c = tt
+loop_again : tie.Need-loop-preserved invariant_loop decreases_loop
+loop_again c = tt
 
-returns : tie.Need-returns invariant-loop decreases-loop
+returns : tie.Need-returns invariant_loop decreases_loop
 returns c = tt
 
-pub segments-spec : {M : Type 1} → statement M
-segments-spec =
+pub segments_spec : {M : Type 1} → statement M
+segments_spec =
     tie.close
     (tie.spec
-    invariant-loop
-    decreases-loop
-    segment-requires
-    frames-ok-requires
-    truth-requires
-    same-requires
-    loop-holds
-    segment-requires-2
-    refused-requires
-    add-k
-    loop-less
-    loop-again
+    invariant_loop
+    decreases_loop
+    segment_requires
+    frames_ok_requires
+    truth_requires
+    same_requires
+    loop_holds
+    segment_requires_2
+    refused_requires
+    add_k
+    loop_less
+    loop_again
     returns)

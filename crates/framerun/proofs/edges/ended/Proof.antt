@@ -3,47 +3,47 @@ use Rattle.std.proofs.Common.{◌-◌, arith}
 use Rattle.framerun.proofs.edges.ended.Statement.{statement}
 use Rattle.framerun.proofs.edges.ended.Tie as tie
 
-abbrev invariant-loop : tie.invariant-loop
-invariant-loop text sum₀ i₀ sum i = Unit {0}
+abbrev invariant_loop : tie.invariant_loop
+invariant_loop text sum₀ i₀ sum i = Unit {0}
 
-abbrev decreases-loop : tie.decreases-loop
-decreases-loop text sum₀ i₀ sum i = 100 - i
+abbrev decreases_loop : tie.decreases_loop
+decreases_loop text sum₀ i₀ sum i = 100 - i
 
-loop-holds : tie.Need-loop-init invariant-loop decreases-loop
-loop-holds c = tt
+loop_holds : tie.Need-loop-init invariant_loop decreases_loop
+loop_holds c = tt
 
-returns : tie.Need-returns invariant-loop decreases-loop
+returns : tie.Need-returns invariant_loop decreases_loop
 returns c = tt
 
-ending-requires : tie.Need-ending-requires invariant-loop decreases-loop
-ending-requires c κs = tt
+ending_requires : tie.Need-ending-requires invariant_loop decreases_loop
+ending_requires c κs = tt
 
-all-requires : tie.Need-all-requires invariant-loop decreases-loop
-all-requires c κs = tt
+all_requires : tie.Need-all-requires invariant_loop decreases_loop
+all_requires c κs = tt
 
-add-i : tie.Need-overflow-add-i invariant-loop decreases-loop
-add-i c = omega arith
+add_i : tie.Need-overflow-add-i invariant_loop decreases_loop
+add_i c = omega arith
 
-loop-less : tie.Need-loop-smaller invariant-loop decreases-loop
-loop-less c = omega arith
+loop_less : tie.Need-loop-smaller invariant_loop decreases_loop
+loop_less c = omega arith
 
-loop-again : tie.Need-loop-preserved invariant-loop decreases-loop
-loop-again c = tt
+loop_again : tie.Need-loop-preserved invariant_loop decreases_loop
+loop_again c = tt
 
-returns-2 : tie.Need-returns-2 invariant-loop decreases-loop
-returns-2 c = tt
+returns_2 : tie.Need-returns-2 invariant_loop decreases_loop
+returns_2 c = tt
 
-pub ended-spec : {M : Type 1} → statement M
-ended-spec =
+pub ended_spec : {M : Type 1} → statement M
+ended_spec =
     tie.close
     (tie.spec
-    invariant-loop
-    decreases-loop
-    loop-holds
+    invariant_loop
+    decreases_loop
+    loop_holds
     returns
-    ending-requires
-    all-requires
-    add-i
-    loop-less
-    loop-again
-    returns-2)
+    ending_requires
+    all_requires
+    add_i
+    loop_less
+    loop_again
+    returns_2)

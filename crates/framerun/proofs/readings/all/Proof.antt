@@ -3,47 +3,47 @@ use Rattle.std.proofs.Common.{◌-◌, arith}
 use Rattle.framerun.proofs.readings.all.Statement.{statement}
 use Rattle.framerun.proofs.readings.all.Tie as tie
 
-abbrev invariant-loop : tie.invariant-loop
-invariant-loop sum₀ p₀ sum p = Unit {0}
+abbrev invariant_loop : tie.invariant_loop
+invariant_loop sum₀ p₀ sum p = Unit {0}
 
-abbrev decreases-loop : tie.decreases-loop
-decreases-loop sum₀ p₀ sum p = 12 - p
+abbrev decreases_loop : tie.decreases_loop
+decreases_loop sum₀ p₀ sum p = 12 - p
 
-none-requires : tie.Need-none-requires invariant-loop decreases-loop
-none-requires c κs = tt
+none_requires : tie.Need-none-requires invariant_loop decreases_loop
+none_requires c κs = tt
 
-listed-requires : tie.Need-listed-requires invariant-loop decreases-loop
-listed-requires c κs = tt
+listed_requires : tie.Need-listed-requires invariant_loop decreases_loop
+listed_requires c κs = tt
 
-loop-holds : tie.Need-loop-init invariant-loop decreases-loop
-loop-holds c = tt
+loop_holds : tie.Need-loop-init invariant_loop decreases_loop
+loop_holds c = tt
 
-page-requires : tie.Need-page-requires invariant-loop decreases-loop
-page-requires c κs = tt
+page_requires : tie.Need-page-requires invariant_loop decreases_loop
+page_requires c κs = tt
 
-add-p : tie.Need-overflow-add-p invariant-loop decreases-loop
-add-p c = omega arith
+add_p : tie.Need-overflow-add-p invariant_loop decreases_loop
+add_p c = omega arith
 
-loop-less : tie.Need-loop-smaller invariant-loop decreases-loop
-loop-less c = omega arith
+loop_less : tie.Need-loop-smaller invariant_loop decreases_loop
+loop_less c = omega arith
 
-loop-again : tie.Need-loop-preserved invariant-loop decreases-loop
-loop-again c = tt
+loop_again : tie.Need-loop-preserved invariant_loop decreases_loop
+loop_again c = tt
 
-returns : tie.Need-returns invariant-loop decreases-loop
+returns : tie.Need-returns invariant_loop decreases_loop
 returns c = tt
 
-pub all-spec : {M : Type 1} → statement M
-all-spec =
+pub all_spec : {M : Type 1} → statement M
+all_spec =
     tie.close
     (tie.spec
-    invariant-loop
-    decreases-loop
-    none-requires
-    listed-requires
-    loop-holds
-    page-requires
-    add-p
-    loop-less
-    loop-again
+    invariant_loop
+    decreases_loop
+    none_requires
+    listed_requires
+    loop_holds
+    page_requires
+    add_p
+    loop_less
+    loop_again
     returns)

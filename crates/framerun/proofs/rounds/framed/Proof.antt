@@ -3,71 +3,71 @@ use Rattle.std.proofs.Common.{◌-◌, arith}
 use Rattle.framerun.proofs.rounds.framed.Statement.{statement}
 use Rattle.framerun.proofs.rounds.framed.Tie as tie
 
-abbrev invariant-loop : tie.invariant-loop
-invariant-loop seed base n spread out₀ page₀ k₀ out page k = Unit {0}
+abbrev invariant_loop : tie.invariant_loop
+invariant_loop seed base n spread out₀ page₀ k₀ out page k = Unit {0}
 
-abbrev decreases-loop : tie.decreases-loop
-decreases-loop seed base n spread out₀ page₀ k₀ out page k = n - k
+abbrev decreases_loop : tie.decreases_loop
+decreases_loop seed base n spread out₀ page₀ k₀ out page k = n - k
 
-pick-requires : tie.Need-pick-requires invariant-loop decreases-loop
-pick-requires c κs = tt
+pick_requires : tie.Need-pick-requires invariant_loop decreases_loop
+pick_requires c κs = tt
 
-below-requires : tie.Need-below-requires invariant-loop decreases-loop
-below-requires c κs = tt
+below_requires : tie.Need-below-requires invariant_loop decreases_loop
+below_requires c κs = tt
 
-spread-requires : tie.Need-spread-requires invariant-loop decreases-loop
-spread-requires c κs = tt
+spread_requires : tie.Need-spread-requires invariant_loop decreases_loop
+spread_requires c κs = tt
 
-loop-holds : tie.Need-loop-init invariant-loop decreases-loop
-loop-holds c = tt
+loop_holds : tie.Need-loop-init invariant_loop decreases_loop
+loop_holds c = tt
 
-pick-requires-2 : tie.Need-pick-requires-2 invariant-loop decreases-loop
-pick-requires-2 c κs = tt
+pick_requires_2 : tie.Need-pick-requires-2 invariant_loop decreases_loop
+pick_requires_2 c κs = tt
 
-last-requires : tie.Need-last-requires invariant-loop decreases-loop
-last-requires c κs = tt
+last_requires : tie.Need-last-requires invariant_loop decreases_loop
+last_requires c κs = tt
 
-pick-requires-3 : tie.Need-pick-requires-3 invariant-loop decreases-loop
-pick-requires-3 c κs = tt
+pick_requires_3 : tie.Need-pick-requires-3 invariant_loop decreases_loop
+pick_requires_3 c κs = tt
 
-size-requires : tie.Need-size-requires invariant-loop decreases-loop
-size-requires c κs = tt
+size_requires : tie.Need-size-requires invariant_loop decreases_loop
+size_requires c κs = tt
 
-clipped-requires : tie.Need-clipped-requires invariant-loop decreases-loop
-clipped-requires c κs = tt
+clipped_requires : tie.Need-clipped-requires invariant_loop decreases_loop
+clipped_requires c κs = tt
 
-with-requires : tie.Need-with-requires invariant-loop decreases-loop
-with-requires c κs = tt
+with_requires : tie.Need-with-requires invariant_loop decreases_loop
+with_requires c κs = tt
 
-add-k : tie.Need-overflow-add-k invariant-loop decreases-loop
-add-k c = omega arith
+add_k : tie.Need-overflow-add-k invariant_loop decreases_loop
+add_k c = omega arith
 
-loop-less : tie.Need-loop-smaller invariant-loop decreases-loop
-loop-less c = omega arith
+loop_less : tie.Need-loop-smaller invariant_loop decreases_loop
+loop_less c = omega arith
 
-loop-again : tie.Need-loop-preserved invariant-loop decreases-loop
-loop-again c = tt
+loop_again : tie.Need-loop-preserved invariant_loop decreases_loop
+loop_again c = tt
 
-returns : tie.Need-returns invariant-loop decreases-loop
+returns : tie.Need-returns invariant_loop decreases_loop
 returns c = tt
 
-pub framed-spec : {M : Type 1} → statement M
-framed-spec =
+pub framed_spec : {M : Type 1} → statement M
+framed_spec =
     tie.close
     (tie.spec
-    invariant-loop
-    decreases-loop
-    pick-requires
-    below-requires
-    spread-requires
-    loop-holds
-    pick-requires-2
-    last-requires
-    pick-requires-3
-    size-requires
-    clipped-requires
-    with-requires
-    add-k
-    loop-less
-    loop-again
+    invariant_loop
+    decreases_loop
+    pick_requires
+    below_requires
+    spread_requires
+    loop_holds
+    pick_requires_2
+    last_requires
+    pick_requires_3
+    size_requires
+    clipped_requires
+    with_requires
+    add_k
+    loop_less
+    loop_again
     returns)

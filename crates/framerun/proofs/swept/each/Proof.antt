@@ -3,47 +3,47 @@ use Rattle.std.proofs.Common.{◌-◌, length, arith}
 use Rattle.framerun.proofs.swept.each.Statement.{statement}
 use Rattle.framerun.proofs.swept.each.Tie as tie
 
-abbrev invariant-loop : tie.invariant-loop
-invariant-loop p list sum₀ i₀ sum i = Unit {0}
+abbrev invariant_loop : tie.invariant_loop
+invariant_loop p list sum₀ i₀ sum i = Unit {0}
 
-abbrev decreases-loop : tie.decreases-loop
-decreases-loop p list sum₀ i₀ sum i = length list - i
+abbrev decreases_loop : tie.decreases_loop
+decreases_loop p list sum₀ i₀ sum i = length list - i
 
-loop-holds : tie.Need-loop-init invariant-loop decreases-loop
-loop-holds c = tt
+loop_holds : tie.Need-loop-init invariant_loop decreases_loop
+loop_holds c = tt
 
-mul-around : tie.Need-overflow-mul-around invariant-loop decreases-loop
-mul-around c = omega arith
+mul_around : tie.Need-overflow-mul-around invariant_loop decreases_loop
+mul_around c = omega arith
 
-shared-slice-read-around : tie.Need-shared-slice-read-around invariant-loop decreases-loop
-shared-slice-read-around c = omega arith
+shared_slice_read_around : tie.Need-shared-slice-read-around invariant_loop decreases_loop
+shared_slice_read_around c = omega arith
 
-around-requires : tie.Need-around-requires invariant-loop decreases-loop
-around-requires c κs = tt
+around_requires : tie.Need-around-requires invariant_loop decreases_loop
+around_requires c κs = tt
 
-add-i : tie.Need-overflow-add-i invariant-loop decreases-loop
-add-i c = omega arith
+add_i : tie.Need-overflow-add-i invariant_loop decreases_loop
+add_i c = omega arith
 
-loop-less : tie.Need-loop-smaller invariant-loop decreases-loop
-loop-less c = omega arith
+loop_less : tie.Need-loop-smaller invariant_loop decreases_loop
+loop_less c = omega arith
 
-loop-again : tie.Need-loop-preserved invariant-loop decreases-loop
-loop-again c = tt
+loop_again : tie.Need-loop-preserved invariant_loop decreases_loop
+loop_again c = tt
 
-returns : tie.Need-returns invariant-loop decreases-loop
+returns : tie.Need-returns invariant_loop decreases_loop
 returns c = tt
 
 pub each_spec : {M : Type 1} → statement M
 each_spec =
     tie.close
     (tie.spec
-    invariant-loop
-    decreases-loop
-    loop-holds
-    mul-around
-    shared-slice-read-around
-    around-requires
-    add-i
-    loop-less
-    loop-again
+    invariant_loop
+    decreases_loop
+    loop_holds
+    mul_around
+    shared_slice_read_around
+    around_requires
+    add_i
+    loop_less
+    loop_again
     returns)

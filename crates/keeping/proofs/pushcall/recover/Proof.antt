@@ -1,29 +1,29 @@
 -- The call's promise of its four tables.
 use Rattle.std.proofs.Common.{rules}
-use Rattle.keeping.proofs.Writes.{recover-keeps}
+use Rattle.keeping.proofs.Writes.{recover_keeps}
 use Rattle.keeping.proofs.pushcall.recover.Statement.{statement}
 use Rattle.keeping.proofs.pushcall.recover.Tie as tie
 
-sigatuda-recover-requires : tie.Need-sigatuda-recover-requires
-sigatuda-recover-requires c κs = search rules
+sigatuda_recover_requires : tie.Need-sigatuda-recover-requires
+sigatuda_recover_requires c κs = search rules
 
 same_length : tie.Need-same-length
 same_length c = search rules
 
-same-length-2 : tie.Need-same-length-2
-same-length-2 c = search rules
+same_length_2 : tie.Need-same-length-2
+same_length_2 c = search rules
 
-same-length-3 : tie.Need-same-length-3
-same-length-3 c = search rules
+same_length_3 : tie.Need-same-length-3
+same_length_3 c = search rules
 
-same-length-4 : tie.Need-same-length-4
-same-length-4 c = search rules
+same_length_4 : tie.Need-same-length-4
+same_length_4 c = search rules
 
 returns : tie.Need-returns
 returns c =
     let g = c.before.before.before.before.before.before.before.before.before.before.before.before.before.before.before.before.before.args in
     let e = c.before.before.before.before.before.before.before.before.sigatuda-recover.ensures in
-    recover-keeps g.volumes.now g.commits.now g.checkpoints.now g.index.now _ _ _ _ g.vid.now e.1.0 e.1.1.0 e.1.1.1.0 e.1.1.1.1
+    recover_keeps g.volumes.now g.commits.now g.checkpoints.now g.index.now _ _ _ _ g.vid.now e.1.0 e.1.1.0 e.1.1.1.0 e.1.1.1.1
 
-pub recover-spec : {M : Type 1} → statement M
-recover-spec = tie.close (tie.spec sigatuda-recover-requires same_length same-length-2 same-length-3 same-length-4 returns)
+pub recover_spec : {M : Type 1} → statement M
+recover_spec = tie.close (tie.spec sigatuda_recover_requires same_length same_length_2 same_length_3 same_length_4 returns)

@@ -2,8 +2,8 @@
 use Rattle.std.proofs.Common.{◌≡◌, true, get_or, arith, w8, Fits, rules}
 use Rattle.rules.specs.Records.{Pending}
 use Rattle.rules.specs.Calls.{preparing, typed}
-use Rattle.keeping.proofs.Rules.{prepare-typed}
-use Rattle.keeping.proofs.Calls.{prepare-keeps}
+use Rattle.keeping.proofs.Rules.{prepare_typed}
+use Rattle.keeping.proofs.Calls.{prepare_keeps}
 use Rattle.keeping.proofs.synccall.prepare.Statement.{statement}
 use Rattle.keeping.proofs.synccall.prepare.Tie as tie
 
@@ -12,10 +12,10 @@ abbrev asked : tie.Start → Pending
 asked a = record { local = a.args.local; commit = a.args.commit; hash = a.args.t6 }
 
 types : (a : tie.Start) → typed (preparing a.args.vid.now (asked a)) ≡ true
-types a = prepare-typed a.args.vid.now (asked a) (omega (arith, a.ranges.local)) (omega (arith, a.ranges.commit)) (search rules) (λ j. let f : Fits w8 (get_or a.args.t6 j 0) = search rules in f.fits)
+types a = prepare_typed a.args.vid.now (asked a) (omega (arith, a.ranges.local)) (omega (arith, a.ranges.commit)) (search rules) (λ j. let f : Fits w8 (get_or a.args.t6 j 0) = search rules in f.fits)
 
-sigatuda-prepare-requires : tie.Need-sigatuda-prepare-requires
-sigatuda-prepare-requires c κs = search rules
+sigatuda_prepare_requires : tie.Need-sigatuda-prepare-requires
+sigatuda_prepare_requires c κs = search rules
 
 same_length : tie.Need-same-length
 same_length c = search rules
@@ -24,7 +24,7 @@ returns : tie.Need-returns
 returns c =
     let s = c.before.before.before.before.before.before.before in
     let g = s.args in
-    prepare-keeps g.volumes.now _ g.vid.now g.commits.now (asked s) (types s) c.before.before.sigatuda-prepare.ensures.1
+    prepare_keeps g.volumes.now _ g.vid.now g.commits.now (asked s) (types s) c.before.before.sigatuda-prepare.ensures.1
 
-pub prepare-spec : {M : Type 1} → statement M
-prepare-spec = tie.close (tie.spec sigatuda-prepare-requires same_length returns)
+pub prepare_spec : {M : Type 1} → statement M
+prepare_spec = tie.close (tie.spec sigatuda_prepare_requires same_length returns)

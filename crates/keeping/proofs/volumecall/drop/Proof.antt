@@ -4,8 +4,8 @@ use Rattle.keeping.proofs.Calls.{drop_keeps}
 use Rattle.keeping.proofs.volumecall.drop.Statement.{statement}
 use Rattle.keeping.proofs.volumecall.drop.Tie as tie
 
-sigatuda-drop-requires : tie.Need-sigatuda-drop-requires
-sigatuda-drop-requires c κs = search rules
+sigatuda_drop_requires : tie.Need-sigatuda-drop-requires
+sigatuda_drop_requires c κs = search rules
 
 same_length : tie.Need-same-length
 same_length c = search rules
@@ -17,4 +17,4 @@ returns c =
     drop_keeps g.volumes.now _ g.vid.now c.before.before.sigatuda-drop.ensures.1
 
 pub drop_spec : {M : Type 1} → statement M
-drop_spec = tie.close (tie.spec sigatuda-drop-requires same_length returns)
+drop_spec = tie.close (tie.spec sigatuda_drop_requires same_length returns)

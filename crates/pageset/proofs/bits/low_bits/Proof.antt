@@ -4,17 +4,17 @@ use Rattle.pageset.proofs.BitLaws.{shl_one}
 use Rattle.pageset.proofs.bits.low_bits.Statement.{statement}
 use Rattle.pageset.proofs.bits.low_bits.Tie as tie
 
-shl-result : tie.Need-overflow-shl-result
-shl-result c = search rules
+shl_result : tie.Need-overflow-shl-result
+shl_result c = search rules
 
-sub-result : tie.Need-overflow-sub-result
-sub-result c = let k = c.before.args.k in omega (arith, shl_one 64 k (omega arith), pow_pos k)
+sub_result : tie.Need-overflow-sub-result
+sub_result c = let k = c.before.args.k in omega (arith, shl_one 64 k (omega arith), pow_pos k)
 
 returns : tie.Need-returns
 returns c = let k = c.before.args.k in omega (arith, shl_one 64 k (omega arith))
 
-returns-2 : tie.Need-returns-2
-returns-2 c = let e : c.before.args.k ≡ 64 = omega arith in ap (λ (x : ℕ). 2 ^ x - 1) (sym e)
+returns_2 : tie.Need-returns-2
+returns_2 c = let e : c.before.args.k ≡ 64 = omega arith in ap (λ (x : ℕ). 2 ^ x - 1) (sym e)
 
-pub low-bits-spec : {M : Type 1} → statement M
-low-bits-spec = tie.close (tie.spec shl-result sub-result returns returns-2)
+pub low_bits_spec : {M : Type 1} → statement M
+low_bits_spec = tie.close (tie.spec shl_result sub_result returns returns_2)

@@ -3,71 +3,71 @@
 use Rattle.std.proofs.Common.{◌≡◌, ℕ, ◌+◌, ◌-◌, ◌*◌, ◌≤◌, get_or, take, drop, arith}
 use lib.Count.{ones-le}
 use Rattle.pageset.specs.declared.PageSet.{PageSet}
-use Rattle.pageset.specs.Sets.{zeroWindow}
-use Rattle.pageset.proofs.FormLaws.{Normal, normal-fact}
-use Rattle.pageset.proofs.EdgeLaws.{shown-at}
-use Rattle.pageset.proofs.CountLaws.{total as onesOf, tally-step, tally-end}
+use Rattle.pageset.specs.Sets.{zero_window}
+use Rattle.pageset.proofs.FormLaws.{Normal, normal_fact}
+use Rattle.pageset.proofs.EdgeLaws.{shown_at}
+use Rattle.pageset.proofs.CountLaws.{total as onesOf, tally_step, tally_end}
 use Rattle.pageset.proofs.sets.cardinality.Statement.{statement}
 use Rattle.pageset.proofs.sets.cardinality.Tie as tie
 
-abbrev invariant-loop : tie.invariant-loop
-invariant-loop n ws total₀ i₀ total i = (i ≤ n) × (total ≤ i * 64) × (total + onesOf (drop i (take n ws)) ≡ onesOf (take n ws))
+abbrev invariant_loop : tie.invariant_loop
+invariant_loop n ws total₀ i₀ total i = (i ≤ n) × (total ≤ i * 64) × (total + onesOf (drop i (take n ws)) ≡ onesOf (take n ws))
 
-abbrev decreases-loop : tie.decreases-loop
-decreases-loop n ws total₀ i₀ total i = n - i
+abbrev decreases_loop : tie.decreases_loop
+decreases_loop n ws total₀ i₀ total i = n - i
 
-its : (a : tie.Start invariant-loop decreases-loop) → Normal a.args.s
-its a = normal-fact a.args.s a.requires
+its : (a : tie.Start invariant_loop decreases_loop) → Normal a.args.s
+its a = normal_fact a.args.s a.requires
 
-loop-holds : tie.Need-loop-init invariant-loop decreases-loop
-loop-holds c = (omega arith, omega arith, omega arith)
+loop_holds : tie.Need-loop-init invariant_loop decreases_loop
+loop_holds c = (omega arith, omega arith, omega arith)
 
-mul-w : tie.Need-overflow-mul-w invariant-loop decreases-loop
-mul-w c = omega (arith, (its c.before.before.before).tidy.short)
+mul_w : tie.Need-overflow-mul-w invariant_loop decreases_loop
+mul_w c = omega (arith, (its c.before.before.before).tidy.short)
 
-array-copy-out-w : tie.Need-array-copy-out-w invariant-loop decreases-loop
-array-copy-out-w c = omega (arith, (its c.before.before.before).tidy.short)
+array_copy_out_w : tie.Need-array-copy-out-w invariant_loop decreases_loop
+array_copy_out_w c = omega (arith, (its c.before.before.before).tidy.short)
 
-add_total : tie.Need-overflow-add-total invariant-loop decreases-loop
+add_total : tie.Need-overflow-add-total invariant_loop decreases_loop
 add_total c =
     let d = c.before.before.before in
     let a = d.before.before in
-    let n = shown-at a.args.s (its a) d.loop.i (omega arith) in
-    omega (arith, ones-le 64 (get_or a.args.s.windows d.loop.i zeroWindow).mask n.fits, (its a).tidy.short)
+    let n = shown_at a.args.s (its a) d.loop.i (omega arith) in
+    omega (arith, ones-le 64 (get_or a.args.s.windows d.loop.i zero_window).mask n.fits, (its a).tidy.short)
 
-add-i : tie.Need-overflow-add-i invariant-loop decreases-loop
-add-i c = omega arith
+add_i : tie.Need-overflow-add-i invariant_loop decreases_loop
+add_i c = omega arith
 
-loop-less : tie.Need-loop-smaller invariant-loop decreases-loop
-loop-less c = omega arith
+loop_less : tie.Need-loop-smaller invariant_loop decreases_loop
+loop_less c = omega arith
 
-loop-again : tie.Need-loop-preserved invariant-loop decreases-loop
-loop-again c =
+loop_again : tie.Need-loop-preserved invariant_loop decreases_loop
+loop_again c =
     let d = c.before.before.before in
     let a = d.before.before in
-    let n = shown-at a.args.s (its a) d.loop.i (omega arith) in (
+    let n = shown_at a.args.s (its a) d.loop.i (omega arith) in (
       omega arith,
-      omega (arith, ones-le 64 (get_or a.args.s.windows d.loop.i zeroWindow).mask n.fits),
-      tally-step a.args.s (its a) d.loop.i d.loop.total d.loop.invariant.2 (omega arith),
+      omega (arith, ones-le 64 (get_or a.args.s.windows d.loop.i zero_window).mask n.fits),
+      tally_step a.args.s (its a) d.loop.i d.loop.total d.loop.invariant.2 (omega arith),
     )
 
-returns : tie.Need-returns invariant-loop decreases-loop
+returns : tie.Need-returns invariant_loop decreases_loop
 returns c =
     let d = c.before in
     let a = d.before.before in
-    tally-end a.args.s (its a) d.loop.i d.loop.total d.loop.invariant.2 (omega arith)
+    tally_end a.args.s (its a) d.loop.i d.loop.total d.loop.invariant.2 (omega arith)
 
-pub cardinality-spec : {M : Type 1} → statement M
-cardinality-spec =
+pub cardinality_spec : {M : Type 1} → statement M
+cardinality_spec =
     tie.close
     (tie.spec
-    invariant-loop
-    decreases-loop
-    loop-holds
-    mul-w
-    array-copy-out-w
+    invariant_loop
+    decreases_loop
+    loop_holds
+    mul_w
+    array_copy_out_w
     add_total
-    add-i
-    loop-less
-    loop-again
+    add_i
+    loop_less
+    loop_again
     returns)

@@ -6,29 +6,29 @@ use Rattle.pageset.proofs.CountLaws.{any_same}
 use Rattle.pageset.proofs.sets.contains_any.Statement.{statement}
 use Rattle.pageset.proofs.sets.contains_any.Tie as tie
 
-not-not : (b : Bool) → not (not b) ≡ b
-not-not true = refl
-not-not false = refl
+not_not : (b : Bool) → not (not b) ≡ b
+not_not true = refl
+not_not false = refl
 
-and-turn : (x y : Bool) → (x && y) ≡ (y && x)
-and-turn true true = refl
-and-turn true false = refl
-and-turn false true = refl
-and-turn false false = refl
+and_turn : (x y : Bool) → (x && y) ≡ (y && x)
+and_turn true true = refl
+and_turn true false = refl
+and_turn false true = refl
+and_turn false false = refl
 
-span-requires : tie.Need-span-requires
-span-requires c κs = search rules
+span_requires : tie.Need-span-requires
+span_requires c κs = search rules
 
-is-empty-requires : tie.Need-is-empty-requires
-is-empty-requires c κs = c.span.ensures.normal
+is_empty_requires : tie.Need-is-empty-requires
+is_empty_requires c κs = c.span.ensures.normal
 
 returns : tie.Need-returns
 returns c =
     let a = c.before.before.args in
-    ap not c.is-empty.ensures
-    ∙ not-not _
+    ap not c.is_empty.ensures
+    ∙ not_not _
     ∙ any_same (member c.before.span.result) (λ p. within a.a.0 a.b.0 p && member a.s p) (2 ^ 32)
-    (λ p. c.before.span.ensures.pages p ∙ and-turn (member a.s p) (within a.a.0 a.b.0 p))
+    (λ p. c.before.span.ensures.pages p ∙ and_turn (member a.s p) (within a.a.0 a.b.0 p))
 
-pub contains-any-spec : {M : Type 1} → statement M
-contains-any-spec = tie.close (tie.spec span-requires is-empty-requires returns)
+pub contains_any_spec : {M : Type 1} → statement M
+contains_any_spec = tie.close (tie.spec span_requires is_empty_requires returns)

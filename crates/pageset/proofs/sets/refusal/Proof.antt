@@ -5,11 +5,11 @@ use Rattle.pageset.specs.declared.SetAnswer.{SetAnswer}
 use Rattle.pageset.proofs.sets.refusal.Statement.{statement}
 use Rattle.pageset.proofs.sets.refusal.Tie as tie
 
-empty-requires : tie.Need-empty-requires
-empty-requires c κs = search rules
+empty_requires : tie.Need-empty-requires
+empty_requires c κs = search rules
 
 returns : tie.Need-returns
 returns c = ap (λ (s : PageSet). record { code = c.before.args.code; set = s }) c.empty.ensures
 
-pub refusal-spec : {M : Type 1} → statement M
-refusal-spec = tie.close (tie.spec empty-requires returns)
+pub refusal_spec : {M : Type 1} → statement M
+refusal_spec = tie.close (tie.spec empty_requires returns)

@@ -4,104 +4,104 @@ use Rattle.std.proofs.Common.{◌≡◌, ℕ, ◌+◌, ◌-◌, ◌/◌, ◌%◌
 use lib.Bits.{bit_and}
 use Rattle.pageset.specs.declared.Window.{Window}
 use Rattle.pageset.specs.declared.PageSet.{PageSet}
-use Rattle.pageset.specs.Sets.{shown, member, zeroWindow}
-use Rattle.pageset.specs.Windows.{spanMask, windowOf}
-use Rattle.pageset.proofs.FormLaws.{Normal, normal-fact}
-use Rattle.pageset.proofs.WalkLaws.{made, step, rises-at}
-use Rattle.pageset.proofs.RangeLaws.{sideMask, side-page, side-picked}
-use Rattle.pageset.proofs.MaskLaws.{Walked, walk_start, walk_step, walk-normal, walk-member}
+use Rattle.pageset.specs.Sets.{shown, member, zero_window}
+use Rattle.pageset.specs.Windows.{span_mask, window_of}
+use Rattle.pageset.proofs.FormLaws.{Normal, normal_fact}
+use Rattle.pageset.proofs.WalkLaws.{made, step, rises_at}
+use Rattle.pageset.proofs.RangeLaws.{side_mask, side_page, side_picked}
+use Rattle.pageset.proofs.MaskLaws.{Walked, walk_start, walk_step, walk_normal, walk_member}
 use Rattle.pageset.proofs.ResultLaws.{is_set}
 use Rattle.pageset.proofs.sets.selected.Statement.{statement}
 use Rattle.pageset.proofs.sets.selected.Tie as tie
 
-abbrev invariant-loop : tie.invariant-loop
-invariant-loop lo hi inside len from ws₀ n₀ i₀ ws n i = (i ≤ len) × (len ≤ 32) × (n ≤ i) × Walked (sideMask inside lo hi) (take len from) i (made n ws)
+abbrev invariant_loop : tie.invariant_loop
+invariant_loop lo hi inside len from ws₀ n₀ i₀ ws n i = (i ≤ len) × (len ≤ 32) × (n ≤ i) × Walked (side_mask inside lo hi) (take len from) i (made n ws)
 
-abbrev decreases-loop : tie.decreases-loop
-decreases-loop lo hi inside len from ws₀ n₀ i₀ ws n i = len - i
+abbrev decreases_loop : tie.decreases_loop
+decreases_loop lo hi inside len from ws₀ n₀ i₀ ws n i = len - i
 
-its : (a : tie.Start invariant-loop decreases-loop) → Normal a.args.s
-its a = normal-fact a.args.s a.requires.0
+its : (a : tie.Start invariant_loop decreases_loop) → Normal a.args.s
+its a = normal_fact a.args.s a.requires.0
 
-loop-holds : tie.Need-loop-init invariant-loop decreases-loop
-loop-holds c = (omega arith, (its c.before).tidy.short, omega arith, walk_start _ _)
+loop_holds : tie.Need-loop-init invariant_loop decreases_loop
+loop_holds c = (omega arith, (its c.before).tidy.short, omega arith, walk_start _ _)
 
-mul-w : tie.Need-overflow-mul-w invariant-loop decreases-loop
-mul-w c = omega arith
+mul_w : tie.Need-overflow-mul-w invariant_loop decreases_loop
+mul_w c = omega arith
 
-array-copy-out-w : tie.Need-array-copy-out-w invariant-loop decreases-loop
-array-copy-out-w c = omega arith
+array_copy_out_w : tie.Need-array-copy-out-w invariant_loop decreases_loop
+array_copy_out_w c = omega arith
 
-span-mask-requires : tie.Need-span-mask-requires invariant-loop decreases-loop
-span-mask-requires c κs = (let d = c.before.before in let a = d.before.before in rises-at a.args.s (its a) d.loop.i (omega arith), omega arith)
+span_mask_requires : tie.Need-span-mask-requires invariant_loop decreases_loop
+span_mask_requires c κs = (let d = c.before.before in let a = d.before.before in rises_at a.args.s (its a) d.loop.i (omega arith), omega arith)
 
-picked-requires : tie.Need-picked-requires invariant-loop decreases-loop
-picked-requires c κs = omega arith
+picked_requires : tie.Need-picked-requires invariant_loop decreases_loop
+picked_requires c κs = omega arith
 
-window-of-requires : tie.Need-window-of-requires invariant-loop decreases-loop
-window-of-requires c κs = omega arith
+window_of_requires : tie.Need-window-of-requires invariant_loop decreases_loop
+window_of_requires c κs = omega arith
 
-mul-ws : tie.Need-overflow-mul-ws invariant-loop decreases-loop
-mul-ws c = omega arith
+mul_ws : tie.Need-overflow-mul-ws invariant_loop decreases_loop
+mul_ws c = omega arith
 
-array-set-from-ws : tie.Need-array-set-from-ws invariant-loop decreases-loop
-array-set-from-ws c = omega arith
+array_set_from_ws : tie.Need-array-set-from-ws invariant_loop decreases_loop
+array_set_from_ws c = omega arith
 
-one-if-requires : tie.Need-one-if-requires invariant-loop decreases-loop
-one-if-requires c κs = omega arith
+one_if_requires : tie.Need-one-if-requires invariant_loop decreases_loop
+one_if_requires c κs = omega arith
 
-add-n : tie.Need-overflow-add-n invariant-loop decreases-loop
-add-n c = omega arith
+add_n : tie.Need-overflow-add-n invariant_loop decreases_loop
+add_n c = omega arith
 
-add-i : tie.Need-overflow-add-i invariant-loop decreases-loop
-add-i c = omega arith
+add_i : tie.Need-overflow-add-i invariant_loop decreases_loop
+add_i c = omega arith
 
-loop-less : tie.Need-loop-smaller invariant-loop decreases-loop
-loop-less c = omega arith
+loop_less : tie.Need-loop-smaller invariant_loop decreases_loop
+loop_less c = omega arith
 
-loop-again : tie.Need-loop-preserved invariant-loop decreases-loop
-loop-again c =
+loop_again : tie.Need-loop-preserved invariant_loop decreases_loop
+loop_again c =
     let d = c.before.before.before.before.before.before in
     let a = d.before.before in
     let i = d.loop.i in
-    let m = (get_or a.args.s.windows i zeroWindow).mask in
+    let m = (get_or a.args.s.windows i zero_window).mask in
     let k = c.before.before.before.span-mask.result in
-    let e : c.before.before.picked.result ≡ bit_and m (sideMask a.args.inside a.args.lo a.args.hi (get_or a.args.s.windows i zeroWindow).index) =
-    c.before.before.picked.ensures ∙ side-picked a.args.inside m k ((2 ^ 64 - 1) - k)
+    let e : c.before.before.picked.result ≡ bit_and m (side_mask a.args.inside a.args.lo a.args.hi (get_or a.args.s.windows i zero_window).index) =
+    c.before.before.picked.ensures ∙ side_picked a.args.inside m k ((2 ^ 64 - 1) - k)
     ∙ ap (λ (z : ℕ). bit_and m (cond a.args.inside z ((2 ^ 64 - 1) - z))) c.before.before.before.span-mask.ensures in
-    let w : Walked (sideMask a.args.inside a.args.lo a.args.hi) (shown a.args.s) (i + 1) (made (d.loop.n + c.one-if.result) (set d.loop.ws d.loop.n c.before.window-of.result)) =
-    walk_step (sideMask a.args.inside a.args.lo a.args.hi) a.args.s (its a).tidy i d.loop.n d.loop.ws (omega arith) d.loop.invariant.3
+    let w : Walked (side_mask a.args.inside a.args.lo a.args.hi) (shown a.args.s) (i + 1) (made (d.loop.n + c.one-if.result) (set d.loop.ws d.loop.n c.before.window-of.result)) =
+    walk_step (side_mask a.args.inside a.args.lo a.args.hi) a.args.s (its a).tidy i d.loop.n d.loop.ws (omega arith) d.loop.invariant.3
     c.before.before.picked.result
     e
     c.before.window-of.result c.before.window-of.ensures c.one-if.result c.one-if.ensures.0 in
     (omega arith, omega arith, w.few, w)
 
-returns : tie.Need-returns invariant-loop decreases-loop
+returns : tie.Need-returns invariant_loop decreases_loop
 returns c =
     let d = c.before in
     let a = d.before.before in
-    let g = sideMask a.args.inside a.args.lo a.args.hi in
-    is_set _ _ (walk-normal g a.args.s (its a) d.loop.i (made d.loop.n d.loop.ws) (omega arith) d.loop.invariant.3)
-    (λ p. walk-member g a.args.s (its a) d.loop.i (made d.loop.n d.loop.ws) (omega arith) d.loop.invariant.3 p
-    ∙ ap (λ (b : Bool). member a.args.s p && b) (side-page a.args.inside a.args.lo a.args.hi a.requires.1 p))
+    let g = side_mask a.args.inside a.args.lo a.args.hi in
+    is_set _ _ (walk_normal g a.args.s (its a) d.loop.i (made d.loop.n d.loop.ws) (omega arith) d.loop.invariant.3)
+    (λ p. walk_member g a.args.s (its a) d.loop.i (made d.loop.n d.loop.ws) (omega arith) d.loop.invariant.3 p
+    ∙ ap (λ (b : Bool). member a.args.s p && b) (side_page a.args.inside a.args.lo a.args.hi a.requires.1 p))
 
-pub selected-spec : {M : Type 1} → statement M
-selected-spec =
+pub selected_spec : {M : Type 1} → statement M
+selected_spec =
     tie.close
     (tie.spec
-    invariant-loop
-    decreases-loop
-    loop-holds
-    mul-w
-    array-copy-out-w
-    span-mask-requires
-    picked-requires
-    window-of-requires
-    mul-ws
-    array-set-from-ws
-    one-if-requires
-    add-n
-    add-i
-    loop-less
-    loop-again
+    invariant_loop
+    decreases_loop
+    loop_holds
+    mul_w
+    array_copy_out_w
+    span_mask_requires
+    picked_requires
+    window_of_requires
+    mul_ws
+    array_set_from_ws
+    one_if_requires
+    add_n
+    add_i
+    loop_less
+    loop_again
     returns)

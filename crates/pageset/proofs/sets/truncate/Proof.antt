@@ -2,7 +2,7 @@
 use Rattle.std.proofs.Common.{◌≡◌, ℕ, zero, suc, Bool, true, false, ◌&&◌, leb, sym, refl, ap, ◌∙◌, arith, rules, le-leb}
 use Rattle.pageset.specs.declared.PageSet.{PageSet}
 use Rattle.pageset.specs.Sets.{member}
-use Rattle.pageset.proofs.FormLaws.{normal-fact}
+use Rattle.pageset.proofs.FormLaws.{normal_fact}
 use Rattle.pageset.proofs.ResultLaws.{set_same}
 use Rattle.pageset.proofs.sets.truncate.Statement.{statement}
 use Rattle.pageset.proofs.sets.truncate.Tie as tie
@@ -11,11 +11,11 @@ from_one : (s : PageSet) → member s 0 ≡ false → (n p : ℕ) → (member s 
 from_one s z n zero = rw z
 from_one s z n (suc p) = rw (le-leb 1 (suc p) (omega arith))
 
-selected-requires : tie.Need-selected-requires
-selected-requires c κs = search rules
+selected_requires : tie.Need-selected-requires
+selected_requires c κs = search rules
 
 returns : tie.Need-returns
-returns c = let s = c.before.args.s in set_same _ _ _ (from_one s (normal-fact s c.before.requires).no_zero c.before.args.n.0) c.selected.ensures
+returns c = let s = c.before.args.s in set_same _ _ _ (from_one s (normal_fact s c.before.requires).no_zero c.before.args.n.0) c.selected.ensures
 
-pub truncate-spec : {M : Type 1} → statement M
-truncate-spec = tie.close (tie.spec selected-requires returns)
+pub truncate_spec : {M : Type 1} → statement M
+truncate_spec = tie.close (tie.spec selected_requires returns)

@@ -5,8 +5,8 @@ use Rattle.pageset.proofs.walk.picked.Tie as tie
 returns : tie.Need-returns
 returns c = rw c.if1.true
 
-returns-2 : tie.Need-returns-2
-returns-2 c = rw c.if1.false
+returns_2 : tie.Need-returns-2
+returns_2 c = rw c.if1.false
 
-pub picked-spec : {M : Type 1} → statement M
-picked-spec = tie.close (tie.spec returns returns-2)
+pub picked_spec : {M : Type 1} → statement M
+picked_spec = tie.close (tie.spec returns returns_2)

@@ -6,8 +6,8 @@ use Rattle.pageset.proofs.walk.window_of.Tie as tie
 returns : tie.Need-returns
 returns c = rw (eq-eqb _ _ c.if1.true)
 
-returns-2 : tie.Need-returns-2
-returns-2 c = rw (ne_eqb _ _ c.if1.false)
+returns_2 : tie.Need-returns-2
+returns_2 c = rw (ne_eqb _ _ c.if1.false)
 
-pub window-of-spec : {M : Type 1} → statement M
-window-of-spec = tie.close (tie.spec returns returns-2)
+pub window_of_spec : {M : Type 1} → statement M
+window_of_spec = tie.close (tie.spec returns returns_2)

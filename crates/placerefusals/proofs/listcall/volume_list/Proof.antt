@@ -1,16 +1,16 @@
 -- Where the answer is a refusal, the contract has the list and the number of its items as they were.
 use Rattle.std.proofs.Common.{rules}
-use Rattle.layout.specs.Records.{volumeBytes}
+use Rattle.layout.specs.Records.{volume_bytes}
 use Rattle.layout.specs.Lent.{lent}
-use Rattle.resultlists.specs.Lists.{slotsIn}
-use Rattle.rules.specs.Reads.{volumeList}
-use Rattle.layout.specs.Tables.{volumesIn, volumesOk}
-use Rattle.refusals.proofs.Laws.{list_left}
+use Rattle.resultlists.specs.Lists.{slots_in}
+use Rattle.rules.specs.Reads.{volume_list}
+use Rattle.layout.specs.Tables.{volumes_in, volumes_ok}
+use Rattle.refusals.proofs.Laws.{list_left_lem}
 use Rattle.placerefusals.proofs.listcall.volume_list.Statement.{statement}
 use Rattle.placerefusals.proofs.listcall.volume_list.Tie as tie
 
-sigatuda-volume-list-requires : tie.Need-sigatuda-volume-list-requires
-sigatuda-volume-list-requires c κs = search rules
+sigatuda_volume_list_requires : tie.Need-sigatuda-volume-list-requires
+sigatuda_volume_list_requires c κs = search rules
 
 same_length : tie.Need-same-length
 same_length c = search rules
@@ -18,7 +18,7 @@ same_length c = search rules
 returns : tie.Need-returns
 returns c =
     let g = c.before.before.before.before.before.before.before.args in
-    list_left volumeBytes _ _ _ _ (lent (volumesOk g.volumes.now) (volumeList (volumesIn g.volumes.now) (slotsIn volumeBytes g.list.now))) _ c.before.before.sigatuda-volume-list.ensures
+    list_left_lem volume_bytes _ _ _ _ (lent (volumes_ok g.volumes.now) (volume_list (volumes_in g.volumes.now) (slots_in volume_bytes g.list.now))) _ c.before.before.sigatuda-volume-list.ensures
 
-pub volume-list-spec : {M : Type 1} → statement M
-volume-list-spec = tie.close (tie.spec sigatuda-volume-list-requires same_length returns)
+pub volume_list_spec : {M : Type 1} → statement M
+volume_list_spec = tie.close (tie.spec sigatuda_volume_list_requires same_length returns)

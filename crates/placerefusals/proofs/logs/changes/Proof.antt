@@ -2,17 +2,17 @@
 use Rattle.std.proofs.Common.{ℕ, rules}
 use Rattle.rules.specs.Sync.{changes as changesRule}
 use Rattle.boundary.specs.Flags.{flagged}
-use Rattle.refusals.proofs.Laws.{maybe-two}
+use Rattle.refusals.proofs.Laws.{maybe_two}
 use Rattle.placerefusals.proofs.logs.changes.Statement.{statement}
 use Rattle.placerefusals.proofs.logs.changes.Tie as tie
 
-sigatuda-changes-requires : tie.Need-sigatuda-changes-requires
-sigatuda-changes-requires c κs = search rules
+sigatuda_changes_requires : tie.Need-sigatuda-changes-requires
+sigatuda_changes_requires c κs = search rules
 
 returns : tie.Need-returns
 returns c =
     let g = c.before.before.before.args in
-    maybe-two (λ (m : ℕ × ℕ). m) _ _ _ _ (changesRule (flagged g.has_base g.base) (flagged g.has-head g.head)) _ c.sigatuda-changes.ensures
+    maybe_two (λ (m : ℕ × ℕ). m) _ _ _ _ (changesRule (flagged g.has_base g.base) (flagged g.has-head g.head)) _ c.sigatuda-changes.ensures
 
-pub changes-spec : {M : Type 1} → statement M
-changes-spec = tie.close (tie.spec sigatuda-changes-requires returns)
+pub changes_spec : {M : Type 1} → statement M
+changes_spec = tie.close (tie.spec sigatuda_changes_requires returns)

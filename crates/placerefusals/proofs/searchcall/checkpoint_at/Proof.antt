@@ -1,19 +1,19 @@
 -- Where the answer is a refusal, the contract has the place as it was.
 use Rattle.std.proofs.Common.{ℕ, rules}
-use Rattle.rules.specs.Reads.{checkpointRead}
-use Rattle.layout.specs.Tables.{checkpointsIn, checkpointsOk}
+use Rattle.rules.specs.Reads.{checkpoint_read}
+use Rattle.layout.specs.Tables.{checkpoints_in, checkpoints_ok}
 use Rattle.layout.specs.Lent.{lent}
-use Rattle.refusals.proofs.Laws.{maybe-left}
+use Rattle.refusals.proofs.Laws.{maybe_left}
 use Rattle.placerefusals.proofs.searchcall.checkpoint_at.Statement.{statement}
 use Rattle.placerefusals.proofs.searchcall.checkpoint_at.Tie as tie
 
-sigatuda-checkpoint-at-requires : tie.Need-sigatuda-checkpoint-at-requires
-sigatuda-checkpoint-at-requires c κs = search rules
+sigatuda_checkpoint_at_requires : tie.Need-sigatuda-checkpoint-at-requires
+sigatuda_checkpoint_at_requires c κs = search rules
 
 returns : tie.Need-returns
 returns c =
     let g = c.before.before.before.args in
-    maybe-left (λ (m : ℕ). m) _ (lent (checkpointsOk g.checkpoints.now) (checkpointRead (checkpointsIn g.checkpoints.now) g.log.now g.lsn)) _ _ c.sigatuda-checkpoint-at.ensures
+    maybe_left (λ (m : ℕ). m) _ (lent (checkpoints_ok g.checkpoints.now) (checkpoint_read (checkpoints_in g.checkpoints.now) g.log.now g.lsn)) _ _ c.sigatuda-checkpoint-at.ensures
 
-pub checkpoint-at-spec : {M : Type 1} → statement M
-checkpoint-at-spec = tie.close (tie.spec sigatuda-checkpoint-at-requires returns)
+pub checkpoint_at_spec : {M : Type 1} → statement M
+checkpoint_at_spec = tie.close (tie.spec sigatuda_checkpoint_at_requires returns)

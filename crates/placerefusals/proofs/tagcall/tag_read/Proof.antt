@@ -2,19 +2,19 @@
 use Rattle.std.proofs.Common.{rules}
 use Rattle.rules.specs.Records.{Id}
 use Rattle.layout.specs.Lent.{lent}
-use Rattle.rules.specs.Reads.{tagRead}
-use Rattle.layout.specs.Tables.{tagsIn, tagsOk}
-use Rattle.refusals.proofs.Laws.{maybe-left}
+use Rattle.rules.specs.Reads.{tag_read}
+use Rattle.layout.specs.Tables.{tags_in, tags_ok}
+use Rattle.refusals.proofs.Laws.{maybe_left}
 use Rattle.placerefusals.proofs.tagcall.tag_read.Statement.{statement}
 use Rattle.placerefusals.proofs.tagcall.tag_read.Tie as tie
 
-sigatuda-tag-read-requires : tie.Need-sigatuda-tag-read-requires
-sigatuda-tag-read-requires c κs = search rules
+sigatuda_tag_read_requires : tie.Need-sigatuda-tag-read-requires
+sigatuda_tag_read_requires c κs = search rules
 
 returns : tie.Need-returns
 returns c =
     let g = c.before.before.before.before.args in
-    maybe-left (λ (v : Id). v) _ (lent (tagsOk g.tags.now) (tagRead (tagsIn g.tags.now) g.name.now)) _ _ c.sigatuda-tag-read.ensures
+    maybe_left (λ (v : Id). v) _ (lent (tags_ok g.tags.now) (tag_read (tags_in g.tags.now) g.name.now)) _ _ c.sigatuda-tag-read.ensures
 
-pub tag-read-spec : {M : Type 1} → statement M
-tag-read-spec = tie.close (tie.spec sigatuda-tag-read-requires returns)
+pub tag_read_spec : {M : Type 1} → statement M
+tag_read_spec = tie.close (tie.spec sigatuda_tag_read_requires returns)

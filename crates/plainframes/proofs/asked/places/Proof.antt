@@ -3,47 +3,47 @@ use Rattle.std.proofs.Common.{◌-◌, arith}
 use Rattle.plainframes.proofs.asked.places.Statement.{statement}
 use Rattle.plainframes.proofs.asked.places.Tie as tie
 
-abbrev invariant-loop : tie.invariant-loop
-invariant-loop p frames sum₀ i₀ sum i = Unit {0}
+abbrev invariant_loop : tie.invariant_loop
+invariant_loop p frames sum₀ i₀ sum i = Unit {0}
 
-abbrev decreases-loop : tie.decreases-loop
-decreases-loop p frames sum₀ i₀ sum i = 16 - i
+abbrev decreases_loop : tie.decreases_loop
+decreases_loop p frames sum₀ i₀ sum i = 16 - i
 
-loop-holds : tie.Need-loop-init invariant-loop decreases-loop
-loop-holds c = tt
+loop_holds : tie.Need-loop-init invariant_loop decreases_loop
+loop_holds c = tt
 
-mul-r : tie.Need-overflow-mul-r invariant-loop decreases-loop
-mul-r c = omega arith
+mul_r : tie.Need-overflow-mul-r invariant_loop decreases_loop
+mul_r c = omega arith
 
-array-copy-out-r : tie.Need-array-copy-out-r invariant-loop decreases-loop
-array-copy-out-r c = omega arith
+array_copy_out_r : tie.Need-array-copy-out-r invariant_loop decreases_loop
+array_copy_out_r c = omega arith
 
-place-requires : tie.Need-place-requires invariant-loop decreases-loop
-place-requires c κs = tt
+place_requires : tie.Need-place-requires invariant_loop decreases_loop
+place_requires c κs = tt
 
-add-i : tie.Need-overflow-add-i invariant-loop decreases-loop
-add-i c = omega arith
+add_i : tie.Need-overflow-add-i invariant_loop decreases_loop
+add_i c = omega arith
 
-loop-less : tie.Need-loop-smaller invariant-loop decreases-loop
-loop-less c = omega arith
+loop_less : tie.Need-loop-smaller invariant_loop decreases_loop
+loop_less c = omega arith
 
-loop-again : tie.Need-loop-preserved invariant-loop decreases-loop
-loop-again c = tt
+loop_again : tie.Need-loop-preserved invariant_loop decreases_loop
+loop_again c = tt
 
-returns : tie.Need-returns invariant-loop decreases-loop
+returns : tie.Need-returns invariant_loop decreases_loop
 returns c = tt
 
-pub places-spec : {M : Type 1} → statement M
-places-spec =
+pub places_spec : {M : Type 1} → statement M
+places_spec =
     tie.close
     (tie.spec
-    invariant-loop
-    decreases-loop
-    loop-holds
-    mul-r
-    array-copy-out-r
-    place-requires
-    add-i
-    loop-less
-    loop-again
+    invariant_loop
+    decreases_loop
+    loop_holds
+    mul_r
+    array_copy_out_r
+    place_requires
+    add_i
+    loop_less
+    loop_again
     returns)

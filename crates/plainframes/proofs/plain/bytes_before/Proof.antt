@@ -3,43 +3,43 @@ use Rattle.std.proofs.Common.{◌-◌, arith}
 use Rattle.plainframes.proofs.plain.bytes_before.Statement.{statement}
 use Rattle.plainframes.proofs.plain.bytes_before.Tie as tie
 
-abbrev invariant-loop : tie.invariant-loop
-invariant-loop sizes i sum₀ k₀ sum k = Unit {0}
+abbrev invariant_loop : tie.invariant_loop
+invariant_loop sizes i sum₀ k₀ sum k = Unit {0}
 
-abbrev decreases-loop : tie.decreases-loop
-decreases-loop sizes i sum₀ k₀ sum k = i - k
+abbrev decreases_loop : tie.decreases_loop
+decreases_loop sizes i sum₀ k₀ sum k = i - k
 
-loop-holds : tie.Need-loop-init invariant-loop decreases-loop
-loop-holds c = tt
+loop_holds : tie.Need-loop-init invariant_loop decreases_loop
+loop_holds c = tt
 
-size-of-requires : tie.Need-size-of-requires invariant-loop decreases-loop
-size-of-requires c κs = tt
+size_of_requires : tie.Need-size-of-requires invariant_loop decreases_loop
+size_of_requires c κs = tt
 
-wrapping-add-u64-requires : tie.Need-wrapping-add-u64-requires invariant-loop decreases-loop
-wrapping-add-u64-requires c κs = tt
+wrapping_add_u64_requires : tie.Need-wrapping-add-u64-requires invariant_loop decreases_loop
+wrapping_add_u64_requires c κs = tt
 
-add-k : tie.Need-overflow-add-k invariant-loop decreases-loop
-add-k c = omega arith
+add_k : tie.Need-overflow-add-k invariant_loop decreases_loop
+add_k c = omega arith
 
-loop-less : tie.Need-loop-smaller invariant-loop decreases-loop
-loop-less c = omega arith
+loop_less : tie.Need-loop-smaller invariant_loop decreases_loop
+loop_less c = omega arith
 
-loop-again : tie.Need-loop-preserved invariant-loop decreases-loop
-loop-again c = tt
+loop_again : tie.Need-loop-preserved invariant_loop decreases_loop
+loop_again c = tt
 
-returns : tie.Need-returns invariant-loop decreases-loop
+returns : tie.Need-returns invariant_loop decreases_loop
 returns c = tt
 
-pub bytes-before-spec : {M : Type 1} → statement M
-bytes-before-spec =
+pub bytes_before_spec : {M : Type 1} → statement M
+bytes_before_spec =
     tie.close
     (tie.spec
-    invariant-loop
-    decreases-loop
-    loop-holds
-    size-of-requires
-    wrapping-add-u64-requires
-    add-k
-    loop-less
-    loop-again
+    invariant_loop
+    decreases_loop
+    loop_holds
+    size_of_requires
+    wrapping_add_u64_requires
+    add_k
+    loop_less
+    loop_again
     returns)

@@ -3,43 +3,43 @@ use Rattle.std.proofs.Common.{◌-◌, arith}
 use Rattle.plainframes.proofs.plain.frame_of.Statement.{statement}
 use Rattle.plainframes.proofs.plain.frame_of.Tie as tie
 
-abbrev invariant-loop : tie.invariant-loop
-invariant-loop p page n i₀ i = Unit {0}
+abbrev invariant_loop : tie.invariant_loop
+invariant_loop p page n i₀ i = Unit {0}
 
-abbrev decreases-loop : tie.decreases-loop
-decreases-loop p page n i₀ i = n - i
+abbrev decreases_loop : tie.decreases_loop
+decreases_loop p page n i₀ i = n - i
 
-loop-holds : tie.Need-loop-init invariant-loop decreases-loop
-loop-holds c = tt
+loop_holds : tie.Need-loop-init invariant_loop decreases_loop
+loop_holds c = tt
 
-has-page-requires : tie.Need-has-page-requires invariant-loop decreases-loop
-has-page-requires c κs = tt
+has_page_requires : tie.Need-has-page-requires invariant_loop decreases_loop
+has_page_requires c κs = tt
 
-returns : tie.Need-returns invariant-loop decreases-loop
+returns : tie.Need-returns invariant_loop decreases_loop
 returns c = tt
 
-add-i : tie.Need-overflow-add-i invariant-loop decreases-loop
-add-i c = omega arith
+add_i : tie.Need-overflow-add-i invariant_loop decreases_loop
+add_i c = omega arith
 
-loop-less : tie.Need-loop-smaller invariant-loop decreases-loop
-loop-less c = omega arith
+loop_less : tie.Need-loop-smaller invariant_loop decreases_loop
+loop_less c = omega arith
 
-loop-again : tie.Need-loop-preserved invariant-loop decreases-loop
-loop-again c = tt
+loop_again : tie.Need-loop-preserved invariant_loop decreases_loop
+loop_again c = tt
 
-returns-2 : tie.Need-returns-2 invariant-loop decreases-loop
-returns-2 c = tt
+returns_2 : tie.Need-returns-2 invariant_loop decreases_loop
+returns_2 c = tt
 
-pub frame-of-spec : {M : Type 1} → statement M
-frame-of-spec =
+pub frame_of_spec : {M : Type 1} → statement M
+frame_of_spec =
     tie.close
     (tie.spec
-    invariant-loop
-    decreases-loop
-    loop-holds
-    has-page-requires
+    invariant_loop
+    decreases_loop
+    loop_holds
+    has_page_requires
     returns
-    add-i
-    loop-less
-    loop-again
-    returns-2)
+    add_i
+    loop_less
+    loop_again
+    returns_2)

@@ -3,47 +3,47 @@ use Rattle.std.proofs.Common.{◌-◌, arith}
 use Rattle.plainframes.proofs.plain.list_fault.Statement.{statement}
 use Rattle.plainframes.proofs.plain.list_fault.Tie as tie
 
-abbrev invariant-loop : tie.invariant-loop
-invariant-loop list sizes lasts n i₀ i = Unit {0}
+abbrev invariant_loop : tie.invariant_loop
+invariant_loop list sizes lasts n i₀ i = Unit {0}
 
-abbrev decreases-loop : tie.decreases-loop
-decreases-loop list sizes lasts n i₀ i = n - i
+abbrev decreases_loop : tie.decreases_loop
+decreases_loop list sizes lasts n i₀ i = n - i
 
-returns : tie.Need-returns invariant-loop decreases-loop
+returns : tie.Need-returns invariant_loop decreases_loop
 returns c = tt
 
-loop-holds : tie.Need-loop-init invariant-loop decreases-loop
-loop-holds c = tt
+loop_holds : tie.Need-loop-init invariant_loop decreases_loop
+loop_holds c = tt
 
-is-bad-requires : tie.Need-is-bad-requires invariant-loop decreases-loop
-is-bad-requires c κs = tt
+is_bad_requires : tie.Need-is-bad-requires invariant_loop decreases_loop
+is_bad_requires c κs = tt
 
-returns-2 : tie.Need-returns-2 invariant-loop decreases-loop
-returns-2 c = tt
+returns_2 : tie.Need-returns-2 invariant_loop decreases_loop
+returns_2 c = tt
 
-add-i : tie.Need-overflow-add-i invariant-loop decreases-loop
-add-i c = omega arith
+add_i : tie.Need-overflow-add-i invariant_loop decreases_loop
+add_i c = omega arith
 
-loop-less : tie.Need-loop-smaller invariant-loop decreases-loop
-loop-less c = omega arith
+loop_less : tie.Need-loop-smaller invariant_loop decreases_loop
+loop_less c = omega arith
 
-loop-again : tie.Need-loop-preserved invariant-loop decreases-loop
-loop-again c = tt
+loop_again : tie.Need-loop-preserved invariant_loop decreases_loop
+loop_again c = tt
 
-returns-3 : tie.Need-returns-3 invariant-loop decreases-loop
-returns-3 c = tt
+returns_3 : tie.Need-returns-3 invariant_loop decreases_loop
+returns_3 c = tt
 
-pub list-fault-spec : {M : Type 1} → statement M
-list-fault-spec =
+pub list_fault_spec : {M : Type 1} → statement M
+list_fault_spec =
     tie.close
     (tie.spec
-    invariant-loop
-    decreases-loop
+    invariant_loop
+    decreases_loop
     returns
-    loop-holds
-    is-bad-requires
-    returns-2
-    add-i
-    loop-less
-    loop-again
-    returns-3)
+    loop_holds
+    is_bad_requires
+    returns_2
+    add_i
+    loop_less
+    loop_again
+    returns_3)

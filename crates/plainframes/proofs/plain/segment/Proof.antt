@@ -3,75 +3,75 @@ use Rattle.std.proofs.Common.{◌-◌, arith}
 use Rattle.plainframes.proofs.plain.segment.Statement.{statement}
 use Rattle.plainframes.proofs.plain.segment.Tie as tie
 
-abbrev invariant-loop : tie.invariant-loop
-invariant-loop p sizes lasts held frames₀ i₀ frames i = Unit {0}
+abbrev invariant_loop : tie.invariant_loop
+invariant_loop p sizes lasts held frames₀ i₀ frames i = Unit {0}
 
-abbrev decreases-loop : tie.decreases-loop
-decreases-loop p sizes lasts held frames₀ i₀ frames i = 16 - i
+abbrev decreases_loop : tie.decreases_loop
+decreases_loop p sizes lasts held frames₀ i₀ frames i = 16 - i
 
-no-frames-requires : tie.Need-no-frames-requires invariant-loop decreases-loop
-no-frames-requires c κs = tt
+no_frames_requires : tie.Need-no-frames-requires invariant_loop decreases_loop
+no_frames_requires c κs = tt
 
-loop-holds : tie.Need-loop-init invariant-loop decreases-loop
-loop-holds c = tt
+loop_holds : tie.Need-loop-init invariant_loop decreases_loop
+loop_holds c = tt
 
-mul-t9 : tie.Need-overflow-mul-t9 invariant-loop decreases-loop
-mul-t9 c = omega arith
+mul_t9 : tie.Need-overflow-mul-t9 invariant_loop decreases_loop
+mul_t9 c = omega arith
 
-array-read-t12 : tie.Need-array-read-t12 invariant-loop decreases-loop
-array-read-t12 c = omega arith
+array_read_t12 : tie.Need-array-read-t12 invariant_loop decreases_loop
+array_read_t12 c = omega arith
 
-mul-t13 : tie.Need-overflow-mul-t13 invariant-loop decreases-loop
-mul-t13 c = omega arith
+mul_t13 : tie.Need-overflow-mul-t13 invariant_loop decreases_loop
+mul_t13 c = omega arith
 
-array-read-t16 : tie.Need-array-read-t16 invariant-loop decreases-loop
-array-read-t16 c = omega arith
+array_read_t16 : tie.Need-array-read-t16 invariant_loop decreases_loop
+array_read_t16 c = omega arith
 
-mul-frames : tie.Need-overflow-mul-frames invariant-loop decreases-loop
-mul-frames c = omega arith
+mul_frames : tie.Need-overflow-mul-frames invariant_loop decreases_loop
+mul_frames c = omega arith
 
-array-set-from-frames : tie.Need-array-set-from-frames invariant-loop decreases-loop
-array-set-from-frames c = omega arith
+array_set_from_frames : tie.Need-array-set-from-frames invariant_loop decreases_loop
+array_set_from_frames c = omega arith
 
-add-i : tie.Need-overflow-add-i invariant-loop decreases-loop
-add-i c = omega arith
+add_i : tie.Need-overflow-add-i invariant_loop decreases_loop
+add_i c = omega arith
 
-loop-less : tie.Need-loop-smaller invariant-loop decreases-loop
-loop-less c = omega arith
+loop_less : tie.Need-loop-smaller invariant_loop decreases_loop
+loop_less c = omega arith
 
-loop-again : tie.Need-loop-preserved invariant-loop decreases-loop
-loop-again c = tt
+loop_again : tie.Need-loop-preserved invariant_loop decreases_loop
+loop_again c = tt
 
-sid-requires : tie.Need-sid-requires invariant-loop decreases-loop
-sid-requires c κs = tt
+sid_requires : tie.Need-sid-requires invariant_loop decreases_loop
+sid_requires c κs = tt
 
-new-requires : tie.Need-new-requires invariant-loop decreases-loop
-new-requires c κs = tt
+new_requires : tie.Need-new-requires invariant_loop decreases_loop
+new_requires c κs = tt
 
-with-frames-requires : tie.Need-with-frames-requires invariant-loop decreases-loop
-with-frames-requires c κs = tt
+with_frames_requires : tie.Need-with-frames-requires invariant_loop decreases_loop
+with_frames_requires c κs = tt
 
-returns : tie.Need-returns invariant-loop decreases-loop
+returns : tie.Need-returns invariant_loop decreases_loop
 returns c = tt
 
-pub segment-spec : {M : Type 1} → statement M
-segment-spec =
+pub segment_spec : {M : Type 1} → statement M
+segment_spec =
     tie.close
     (tie.spec
-    invariant-loop
-    decreases-loop
-    no-frames-requires
-    loop-holds
-    mul-t9
-    array-read-t12
-    mul-t13
-    array-read-t16
-    mul-frames
-    array-set-from-frames
-    add-i
-    loop-less
-    loop-again
-    sid-requires
-    new-requires
-    with-frames-requires
+    invariant_loop
+    decreases_loop
+    no_frames_requires
+    loop_holds
+    mul_t9
+    array_read_t12
+    mul_t13
+    array_read_t16
+    mul_frames
+    array_set_from_frames
+    add_i
+    loop_less
+    loop_again
+    sid_requires
+    new_requires
+    with_frames_requires
     returns)

@@ -3,51 +3,51 @@ use Rattle.std.proofs.Common.{◌-◌, length, arith}
 use Rattle.plainset.proofs.held.built.Statement.{statement}
 use Rattle.plainset.proofs.held.built.Tie as tie
 
-abbrev invariant-loop : tie.invariant-loop
-invariant-loop draws h₀ i₀ h i = Unit {0}
+abbrev invariant_loop : tie.invariant_loop
+invariant_loop draws h₀ i₀ h i = Unit {0}
 
-abbrev decreases-loop : tie.decreases-loop
-decreases-loop draws h₀ i₀ h i = length draws - i
+abbrev decreases_loop : tie.decreases_loop
+decreases_loop draws h₀ i₀ h i = length draws - i
 
-empty-requires : tie.Need-empty-requires invariant-loop decreases-loop
-empty-requires c κs = tt
+empty_requires : tie.Need-empty-requires invariant_loop decreases_loop
+empty_requires c κs = tt
 
-loop-holds : tie.Need-loop-init invariant-loop decreases-loop
-loop-holds c = tt
+loop_holds : tie.Need-loop-init invariant_loop decreases_loop
+loop_holds c = tt
 
-mul-grown : tie.Need-overflow-mul-grown invariant-loop decreases-loop
-mul-grown c = omega arith
+mul_grown : tie.Need-overflow-mul-grown invariant_loop decreases_loop
+mul_grown c = omega arith
 
-shared-slice-read-grown : tie.Need-shared-slice-read-grown invariant-loop decreases-loop
-shared-slice-read-grown c = omega arith
+shared_slice_read_grown : tie.Need-shared-slice-read-grown invariant_loop decreases_loop
+shared_slice_read_grown c = omega arith
 
-grown-requires : tie.Need-grown-requires invariant-loop decreases-loop
-grown-requires c κs = tt
+grown_requires : tie.Need-grown-requires invariant_loop decreases_loop
+grown_requires c κs = tt
 
-add-i : tie.Need-overflow-add-i invariant-loop decreases-loop
-add-i c = omega arith
+add_i : tie.Need-overflow-add-i invariant_loop decreases_loop
+add_i c = omega arith
 
-loop-less : tie.Need-loop-smaller invariant-loop decreases-loop
-loop-less c = omega arith
+loop_less : tie.Need-loop-smaller invariant_loop decreases_loop
+loop_less c = omega arith
 
-loop-again : tie.Need-loop-preserved invariant-loop decreases-loop
-loop-again c = tt
+loop_again : tie.Need-loop-preserved invariant_loop decreases_loop
+loop_again c = tt
 
-returns : tie.Need-returns invariant-loop decreases-loop
+returns : tie.Need-returns invariant_loop decreases_loop
 returns c = tt
 
-pub built-spec : {M : Type 1} → statement M
-built-spec =
+pub built_spec : {M : Type 1} → statement M
+built_spec =
     tie.close
     (tie.spec
-    invariant-loop
-    decreases-loop
-    empty-requires
-    loop-holds
-    mul-grown
-    shared-slice-read-grown
-    grown-requires
-    add-i
-    loop-less
-    loop-again
+    invariant_loop
+    decreases_loop
+    empty_requires
+    loop_holds
+    mul_grown
+    shared_slice_read_grown
+    grown_requires
+    add_i
+    loop_less
+    loop_again
     returns)

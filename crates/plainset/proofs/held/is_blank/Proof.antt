@@ -3,51 +3,51 @@ use Rattle.std.proofs.Common.{◌-◌, arith}
 use Rattle.plainset.proofs.held.is_blank.Statement.{statement}
 use Rattle.plainset.proofs.held.is_blank.Tie as tie
 
-abbrev invariant-loop : tie.invariant-loop
-invariant-loop s ws i₀ i = Unit {0}
+abbrev invariant_loop : tie.invariant_loop
+invariant_loop s ws i₀ i = Unit {0}
 
-abbrev decreases-loop : tie.decreases-loop
-decreases-loop s ws i₀ i = 32 - i
+abbrev decreases_loop : tie.decreases_loop
+decreases_loop s ws i₀ i = 32 - i
 
-loop-holds : tie.Need-loop-init invariant-loop decreases-loop
-loop-holds c = tt
+loop_holds : tie.Need-loop-init invariant_loop decreases_loop
+loop_holds c = tt
 
-mul-w : tie.Need-overflow-mul-w invariant-loop decreases-loop
-mul-w c = omega arith
+mul_w : tie.Need-overflow-mul-w invariant_loop decreases_loop
+mul_w c = omega arith
 
-array-copy-out-w : tie.Need-array-copy-out-w invariant-loop decreases-loop
-array-copy-out-w c = omega arith
+array_copy_out_w : tie.Need-array-copy-out-w invariant_loop decreases_loop
+array_copy_out_w c = omega arith
 
-returns : tie.Need-returns invariant-loop decreases-loop
+returns : tie.Need-returns invariant_loop decreases_loop
 returns c = tt
 
-returns-2 : tie.Need-returns-2 invariant-loop decreases-loop
-returns-2 c = tt
+returns_2 : tie.Need-returns-2 invariant_loop decreases_loop
+returns_2 c = tt
 
-add-i : tie.Need-overflow-add-i invariant-loop decreases-loop
-add-i c = omega arith
+add_i : tie.Need-overflow-add-i invariant_loop decreases_loop
+add_i c = omega arith
 
-loop-less : tie.Need-loop-smaller invariant-loop decreases-loop
-loop-less c = omega arith
+loop_less : tie.Need-loop-smaller invariant_loop decreases_loop
+loop_less c = omega arith
 
-loop-again : tie.Need-loop-preserved invariant-loop decreases-loop
-loop-again c = tt
+loop_again : tie.Need-loop-preserved invariant_loop decreases_loop
+loop_again c = tt
 
-returns-3 : tie.Need-returns-3 invariant-loop decreases-loop
-returns-3 c = tt
+returns_3 : tie.Need-returns-3 invariant_loop decreases_loop
+returns_3 c = tt
 
-pub is-blank-spec : {M : Type 1} → statement M
-is-blank-spec =
+pub is_blank_spec : {M : Type 1} → statement M
+is_blank_spec =
     tie.close
     (tie.spec
-    invariant-loop
-    decreases-loop
-    loop-holds
-    mul-w
-    array-copy-out-w
+    invariant_loop
+    decreases_loop
+    loop_holds
+    mul_w
+    array_copy_out_w
     returns
-    returns-2
-    add-i
-    loop-less
-    loop-again
-    returns-3)
+    returns_2
+    add_i
+    loop_less
+    loop_again
+    returns_3)

@@ -3,59 +3,59 @@ use Rattle.std.proofs.Common.{◌-◌, arith}
 use Rattle.plainset.proofs.naive.against.Statement.{statement}
 use Rattle.plainset.proofs.naive.against.Tie as tie
 
-abbrev invariant-loop : tie.invariant-loop
-invariant-loop other inside pages₀ i₀ pages i = Unit {0}
+abbrev invariant_loop : tie.invariant_loop
+invariant_loop other inside pages₀ i₀ pages i = Unit {0}
 
-abbrev decreases-loop : tie.decreases-loop
-decreases-loop other inside pages₀ i₀ pages i = 256 - i
+abbrev decreases_loop : tie.decreases_loop
+decreases_loop other inside pages₀ i₀ pages i = 256 - i
 
-loop-holds : tie.Need-loop-init invariant-loop decreases-loop
-loop-holds c = tt
+loop_holds : tie.Need-loop-init invariant_loop decreases_loop
+loop_holds c = tt
 
-mul-p : tie.Need-overflow-mul-p invariant-loop decreases-loop
-mul-p c = omega arith
+mul_p : tie.Need-overflow-mul-p invariant_loop decreases_loop
+mul_p c = omega arith
 
-array-read-p : tie.Need-array-read-p invariant-loop decreases-loop
-array-read-p c = omega arith
+array_read_p : tie.Need-array-read-p invariant_loop decreases_loop
+array_read_p c = omega arith
 
-has-requires : tie.Need-has-requires invariant-loop decreases-loop
-has-requires c κs = tt
+has_requires : tie.Need-has-requires invariant_loop decreases_loop
+has_requires c κs = tt
 
-kept-requires : tie.Need-kept-requires invariant-loop decreases-loop
-kept-requires c κs = tt
+kept_requires : tie.Need-kept-requires invariant_loop decreases_loop
+kept_requires c κs = tt
 
-mul-pages : tie.Need-overflow-mul-pages invariant-loop decreases-loop
-mul-pages c = omega arith
+mul_pages : tie.Need-overflow-mul-pages invariant_loop decreases_loop
+mul_pages c = omega arith
 
-array-write-pages : tie.Need-array-write-pages invariant-loop decreases-loop
-array-write-pages c = omega arith
+array_write_pages : tie.Need-array-write-pages invariant_loop decreases_loop
+array_write_pages c = omega arith
 
-add-i : tie.Need-overflow-add-i invariant-loop decreases-loop
-add-i c = omega arith
+add_i : tie.Need-overflow-add-i invariant_loop decreases_loop
+add_i c = omega arith
 
-loop-less : tie.Need-loop-smaller invariant-loop decreases-loop
-loop-less c = omega arith
+loop_less : tie.Need-loop-smaller invariant_loop decreases_loop
+loop_less c = omega arith
 
-loop-again : tie.Need-loop-preserved invariant-loop decreases-loop
-loop-again c = tt
+loop_again : tie.Need-loop-preserved invariant_loop decreases_loop
+loop_again c = tt
 
-returns : tie.Need-returns invariant-loop decreases-loop
+returns : tie.Need-returns invariant_loop decreases_loop
 returns c = tt
 
-pub against-spec : {M : Type 1} → statement M
-against-spec =
+pub against_spec : {M : Type 1} → statement M
+against_spec =
     tie.close
     (tie.spec
-    invariant-loop
-    decreases-loop
-    loop-holds
-    mul-p
-    array-read-p
-    has-requires
-    kept-requires
-    mul-pages
-    array-write-pages
-    add-i
-    loop-less
-    loop-again
+    invariant_loop
+    decreases_loop
+    loop_holds
+    mul_p
+    array_read_p
+    has_requires
+    kept_requires
+    mul_pages
+    array_write_pages
+    add_i
+    loop_less
+    loop_again
     returns)

@@ -3,51 +3,51 @@ use Rattle.std.proofs.Common.{◌-◌, length, arith}
 use Rattle.plainset.proofs.naive.blocks.Statement.{statement}
 use Rattle.plainset.proofs.naive.blocks.Tie as tie
 
-abbrev invariant-loop : tie.invariant-loop
-invariant-loop list n₀ i₀ n i = Unit {0}
+abbrev invariant_loop : tie.invariant_loop
+invariant_loop list n₀ i₀ n i = Unit {0}
 
-abbrev decreases-loop : tie.decreases-loop
-decreases-loop list n₀ i₀ n i = length list - i
+abbrev decreases_loop : tie.decreases_loop
+decreases_loop list n₀ i₀ n i = length list - i
 
-loop-holds : tie.Need-loop-init invariant-loop decreases-loop
-loop-holds c = tt
+loop_holds : tie.Need-loop-init invariant_loop decreases_loop
+loop_holds c = tt
 
-mul-starts-block : tie.Need-overflow-mul-starts-block invariant-loop decreases-loop
-mul-starts-block c = omega arith
+mul_starts_block : tie.Need-overflow-mul-starts-block invariant_loop decreases_loop
+mul_starts_block c = omega arith
 
-shared-slice-read-starts-block : tie.Need-shared-slice-read-starts-block invariant-loop decreases-loop
-shared-slice-read-starts-block c = omega arith
+shared_slice_read_starts_block : tie.Need-shared-slice-read-starts-block invariant_loop decreases_loop
+shared_slice_read_starts_block c = omega arith
 
-starts-block-requires : tie.Need-starts-block-requires invariant-loop decreases-loop
-starts-block-requires c κs = tt
+starts_block_requires : tie.Need-starts-block-requires invariant_loop decreases_loop
+starts_block_requires c κs = tt
 
-wrapping-add-u64-requires : tie.Need-wrapping-add-u64-requires invariant-loop decreases-loop
-wrapping-add-u64-requires c κs = tt
+wrapping_add_u64_requires : tie.Need-wrapping-add-u64-requires invariant_loop decreases_loop
+wrapping_add_u64_requires c κs = tt
 
-add-i : tie.Need-overflow-add-i invariant-loop decreases-loop
-add-i c = omega arith
+add_i : tie.Need-overflow-add-i invariant_loop decreases_loop
+add_i c = omega arith
 
-loop-less : tie.Need-loop-smaller invariant-loop decreases-loop
-loop-less c = omega arith
+loop_less : tie.Need-loop-smaller invariant_loop decreases_loop
+loop_less c = omega arith
 
-loop-again : tie.Need-loop-preserved invariant-loop decreases-loop
-loop-again c = tt
+loop_again : tie.Need-loop-preserved invariant_loop decreases_loop
+loop_again c = tt
 
-returns : tie.Need-returns invariant-loop decreases-loop
+returns : tie.Need-returns invariant_loop decreases_loop
 returns c = tt
 
-pub blocks-spec : {M : Type 1} → statement M
-blocks-spec =
+pub blocks_spec : {M : Type 1} → statement M
+blocks_spec =
     tie.close
     (tie.spec
-    invariant-loop
-    decreases-loop
-    loop-holds
-    mul-starts-block
-    shared-slice-read-starts-block
-    starts-block-requires
-    wrapping-add-u64-requires
-    add-i
-    loop-less
-    loop-again
+    invariant_loop
+    decreases_loop
+    loop_holds
+    mul_starts_block
+    shared_slice_read_starts_block
+    starts_block_requires
+    wrapping_add_u64_requires
+    add_i
+    loop_less
+    loop_again
     returns)

@@ -3,47 +3,47 @@ use Rattle.std.proofs.Common.{◌-◌, length, arith}
 use Rattle.plainset.proofs.naive.both.Statement.{statement}
 use Rattle.plainset.proofs.naive.both.Tie as tie
 
-abbrev invariant-loop : tie.invariant-loop
-invariant-loop other pages₀ i₀ pages i = Unit {0}
+abbrev invariant_loop : tie.invariant_loop
+invariant_loop other pages₀ i₀ pages i = Unit {0}
 
-abbrev decreases-loop : tie.decreases-loop
-decreases-loop other pages₀ i₀ pages i = length other - i
+abbrev decreases_loop : tie.decreases_loop
+decreases_loop other pages₀ i₀ pages i = length other - i
 
-loop-holds : tie.Need-loop-init invariant-loop decreases-loop
-loop-holds c = tt
+loop_holds : tie.Need-loop-init invariant_loop decreases_loop
+loop_holds c = tt
 
-mul-joined : tie.Need-overflow-mul-joined invariant-loop decreases-loop
-mul-joined c = omega arith
+mul_joined : tie.Need-overflow-mul-joined invariant_loop decreases_loop
+mul_joined c = omega arith
 
-shared-slice-read-joined : tie.Need-shared-slice-read-joined invariant-loop decreases-loop
-shared-slice-read-joined c = omega arith
+shared_slice_read_joined : tie.Need-shared-slice-read-joined invariant_loop decreases_loop
+shared_slice_read_joined c = omega arith
 
-joined-requires : tie.Need-joined-requires invariant-loop decreases-loop
-joined-requires c κs = tt
+joined_requires : tie.Need-joined-requires invariant_loop decreases_loop
+joined_requires c κs = tt
 
-add-i : tie.Need-overflow-add-i invariant-loop decreases-loop
-add-i c = omega arith
+add_i : tie.Need-overflow-add-i invariant_loop decreases_loop
+add_i c = omega arith
 
-loop-less : tie.Need-loop-smaller invariant-loop decreases-loop
-loop-less c = omega arith
+loop_less : tie.Need-loop-smaller invariant_loop decreases_loop
+loop_less c = omega arith
 
-loop-again : tie.Need-loop-preserved invariant-loop decreases-loop
-loop-again c = tt
+loop_again : tie.Need-loop-preserved invariant_loop decreases_loop
+loop_again c = tt
 
-returns : tie.Need-returns invariant-loop decreases-loop
+returns : tie.Need-returns invariant_loop decreases_loop
 returns c = tt
 
-pub both-spec : {M : Type 1} → statement M
-both-spec =
+pub both_spec : {M : Type 1} → statement M
+both_spec =
     tie.close
     (tie.spec
-    invariant-loop
-    decreases-loop
-    loop-holds
-    mul-joined
-    shared-slice-read-joined
-    joined-requires
-    add-i
-    loop-less
-    loop-again
+    invariant_loop
+    decreases_loop
+    loop_holds
+    mul_joined
+    shared_slice_read_joined
+    joined_requires
+    add_i
+    loop_less
+    loop_again
     returns)

@@ -3,51 +3,51 @@ use Rattle.std.proofs.Common.{◌-◌, length, arith}
 use Rattle.plainset.proofs.naive.count_within.Statement.{statement}
 use Rattle.plainset.proofs.naive.count_within.Tie as tie
 
-abbrev invariant-loop : tie.invariant-loop
-invariant-loop list a b n₀ i₀ n i = Unit {0}
+abbrev invariant_loop : tie.invariant_loop
+invariant_loop list a b n₀ i₀ n i = Unit {0}
 
-abbrev decreases-loop : tie.decreases-loop
-decreases-loop list a b n₀ i₀ n i = length list - i
+abbrev decreases_loop : tie.decreases_loop
+decreases_loop list a b n₀ i₀ n i = length list - i
 
-loop-holds : tie.Need-loop-init invariant-loop decreases-loop
-loop-holds c = tt
+loop_holds : tie.Need-loop-init invariant_loop decreases_loop
+loop_holds c = tt
 
-mul-one-if-within : tie.Need-overflow-mul-one-if-within invariant-loop decreases-loop
-mul-one-if-within c = omega arith
+mul_one_if_within : tie.Need-overflow-mul-one-if-within invariant_loop decreases_loop
+mul_one_if_within c = omega arith
 
-shared-slice-read-one-if-within : tie.Need-shared-slice-read-one-if-within invariant-loop decreases-loop
-shared-slice-read-one-if-within c = omega arith
+shared_slice_read_one_if_within : tie.Need-shared-slice-read-one-if-within invariant_loop decreases_loop
+shared_slice_read_one_if_within c = omega arith
 
-one-if-within-requires : tie.Need-one-if-within-requires invariant-loop decreases-loop
-one-if-within-requires c κs = tt
+one_if_within_requires : tie.Need-one-if-within-requires invariant_loop decreases_loop
+one_if_within_requires c κs = tt
 
-wrapping-add-u64-requires : tie.Need-wrapping-add-u64-requires invariant-loop decreases-loop
-wrapping-add-u64-requires c κs = tt
+wrapping_add_u64_requires : tie.Need-wrapping-add-u64-requires invariant_loop decreases_loop
+wrapping_add_u64_requires c κs = tt
 
-add-i : tie.Need-overflow-add-i invariant-loop decreases-loop
-add-i c = omega arith
+add_i : tie.Need-overflow-add-i invariant_loop decreases_loop
+add_i c = omega arith
 
-loop-less : tie.Need-loop-smaller invariant-loop decreases-loop
-loop-less c = omega arith
+loop_less : tie.Need-loop-smaller invariant_loop decreases_loop
+loop_less c = omega arith
 
-loop-again : tie.Need-loop-preserved invariant-loop decreases-loop
-loop-again c = tt
+loop_again : tie.Need-loop-preserved invariant_loop decreases_loop
+loop_again c = tt
 
-returns : tie.Need-returns invariant-loop decreases-loop
+returns : tie.Need-returns invariant_loop decreases_loop
 returns c = tt
 
-pub count-within-spec : {M : Type 1} → statement M
-count-within-spec =
+pub count_within_spec : {M : Type 1} → statement M
+count_within_spec =
     tie.close
     (tie.spec
-    invariant-loop
-    decreases-loop
-    loop-holds
-    mul-one-if-within
-    shared-slice-read-one-if-within
-    one-if-within-requires
-    wrapping-add-u64-requires
-    add-i
-    loop-less
-    loop-again
+    invariant_loop
+    decreases_loop
+    loop_holds
+    mul_one_if_within
+    shared_slice_read_one_if_within
+    one_if_within_requires
+    wrapping_add_u64_requires
+    add_i
+    loop_less
+    loop_again
     returns)

@@ -3,47 +3,47 @@ use Rattle.std.proofs.Common.{◌-◌, length, arith}
 use Rattle.plainset.proofs.naive.has.Statement.{statement}
 use Rattle.plainset.proofs.naive.has.Tie as tie
 
-abbrev invariant-loop : tie.invariant-loop
-invariant-loop list p i₀ i = Unit {0}
+abbrev invariant_loop : tie.invariant_loop
+invariant_loop list p i₀ i = Unit {0}
 
-abbrev decreases-loop : tie.decreases-loop
-decreases-loop list p i₀ i = length list - i
+abbrev decreases_loop : tie.decreases_loop
+decreases_loop list p i₀ i = length list - i
 
-loop-holds : tie.Need-loop-init invariant-loop decreases-loop
-loop-holds c = tt
+loop_holds : tie.Need-loop-init invariant_loop decreases_loop
+loop_holds c = tt
 
-mul-if1 : tie.Need-overflow-mul-if1 invariant-loop decreases-loop
-mul-if1 c = omega arith
+mul_if1 : tie.Need-overflow-mul-if1 invariant_loop decreases_loop
+mul_if1 c = omega arith
 
-shared-slice-read-if1 : tie.Need-shared-slice-read-if1 invariant-loop decreases-loop
-shared-slice-read-if1 c = omega arith
+shared_slice_read_if1 : tie.Need-shared-slice-read-if1 invariant_loop decreases_loop
+shared_slice_read_if1 c = omega arith
 
-returns : tie.Need-returns invariant-loop decreases-loop
+returns : tie.Need-returns invariant_loop decreases_loop
 returns c = tt
 
-add-i : tie.Need-overflow-add-i invariant-loop decreases-loop
-add-i c = omega arith
+add_i : tie.Need-overflow-add-i invariant_loop decreases_loop
+add_i c = omega arith
 
-loop-less : tie.Need-loop-smaller invariant-loop decreases-loop
-loop-less c = omega arith
+loop_less : tie.Need-loop-smaller invariant_loop decreases_loop
+loop_less c = omega arith
 
-loop-again : tie.Need-loop-preserved invariant-loop decreases-loop
-loop-again c = tt
+loop_again : tie.Need-loop-preserved invariant_loop decreases_loop
+loop_again c = tt
 
-returns-2 : tie.Need-returns-2 invariant-loop decreases-loop
-returns-2 c = tt
+returns_2 : tie.Need-returns-2 invariant_loop decreases_loop
+returns_2 c = tt
 
-pub has-spec : {M : Type 1} → statement M
-has-spec =
+pub has_spec : {M : Type 1} → statement M
+has_spec =
     tie.close
     (tie.spec
-    invariant-loop
-    decreases-loop
-    loop-holds
-    mul-if1
-    shared-slice-read-if1
+    invariant_loop
+    decreases_loop
+    loop_holds
+    mul_if1
+    shared_slice_read_if1
     returns
-    add-i
-    loop-less
-    loop-again
-    returns-2)
+    add_i
+    loop_less
+    loop_again
+    returns_2)

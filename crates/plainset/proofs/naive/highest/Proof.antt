@@ -3,51 +3,51 @@ use Rattle.std.proofs.Common.{◌-◌, length, arith}
 use Rattle.plainset.proofs.naive.highest.Statement.{statement}
 use Rattle.plainset.proofs.naive.highest.Tie as tie
 
-abbrev invariant-loop : tie.invariant-loop
-invariant-loop list p₀ i₀ p i = Unit {0}
+abbrev invariant_loop : tie.invariant_loop
+invariant_loop list p₀ i₀ p i = Unit {0}
 
-abbrev decreases-loop : tie.decreases-loop
-decreases-loop list p₀ i₀ p i = length list - i
+abbrev decreases_loop : tie.decreases_loop
+decreases_loop list p₀ i₀ p i = length list - i
 
-loop-holds : tie.Need-loop-init invariant-loop decreases-loop
-loop-holds c = tt
+loop_holds : tie.Need-loop-init invariant_loop decreases_loop
+loop_holds c = tt
 
-mul-if1 : tie.Need-overflow-mul-if1 invariant-loop decreases-loop
-mul-if1 c = omega arith
+mul_if1 : tie.Need-overflow-mul-if1 invariant_loop decreases_loop
+mul_if1 c = omega arith
 
-shared-slice-read-if1 : tie.Need-shared-slice-read-if1 invariant-loop decreases-loop
-shared-slice-read-if1 c = omega arith
+shared_slice_read_if1 : tie.Need-shared-slice-read-if1 invariant_loop decreases_loop
+shared_slice_read_if1 c = omega arith
 
-mul-p : tie.Need-overflow-mul-p invariant-loop decreases-loop
-mul-p c = omega arith
+mul_p : tie.Need-overflow-mul-p invariant_loop decreases_loop
+mul_p c = omega arith
 
-shared-slice-read-p : tie.Need-shared-slice-read-p invariant-loop decreases-loop
-shared-slice-read-p c = omega arith
+shared_slice_read_p : tie.Need-shared-slice-read-p invariant_loop decreases_loop
+shared_slice_read_p c = omega arith
 
-add-i : tie.Need-overflow-add-i invariant-loop decreases-loop
-add-i c = omega arith
+add_i : tie.Need-overflow-add-i invariant_loop decreases_loop
+add_i c = omega arith
 
-loop-less : tie.Need-loop-smaller invariant-loop decreases-loop
-loop-less c = omega arith
+loop_less : tie.Need-loop-smaller invariant_loop decreases_loop
+loop_less c = omega arith
 
-loop-again : tie.Need-loop-preserved invariant-loop decreases-loop
-loop-again c = tt
+loop_again : tie.Need-loop-preserved invariant_loop decreases_loop
+loop_again c = tt
 
-returns : tie.Need-returns invariant-loop decreases-loop
+returns : tie.Need-returns invariant_loop decreases_loop
 returns c = tt
 
-pub highest-spec : {M : Type 1} → statement M
-highest-spec =
+pub highest_spec : {M : Type 1} → statement M
+highest_spec =
     tie.close
     (tie.spec
-    invariant-loop
-    decreases-loop
-    loop-holds
-    mul-if1
-    shared-slice-read-if1
-    mul-p
-    shared-slice-read-p
-    add-i
-    loop-less
-    loop-again
+    invariant_loop
+    decreases_loop
+    loop_holds
+    mul_if1
+    shared_slice_read_if1
+    mul_p
+    shared_slice_read_p
+    add_i
+    loop_less
+    loop_again
     returns)

@@ -3,47 +3,47 @@ use Rattle.std.proofs.Common.{◌-◌, length, arith}
 use Rattle.plainset.proofs.naive.lowest.Statement.{statement}
 use Rattle.plainset.proofs.naive.lowest.Tie as tie
 
-abbrev invariant-loop : tie.invariant-loop
-invariant-loop list p₀ i₀ p i = Unit {0}
+abbrev invariant_loop : tie.invariant_loop
+invariant_loop list p₀ i₀ p i = Unit {0}
 
-abbrev decreases-loop : tie.decreases-loop
-decreases-loop list p₀ i₀ p i = length list - i
+abbrev decreases_loop : tie.decreases_loop
+decreases_loop list p₀ i₀ p i = length list - i
 
-loop-holds : tie.Need-loop-init invariant-loop decreases-loop
-loop-holds c = tt
+loop_holds : tie.Need-loop-init invariant_loop decreases_loop
+loop_holds c = tt
 
-mul-lower : tie.Need-overflow-mul-lower invariant-loop decreases-loop
-mul-lower c = omega arith
+mul_lower : tie.Need-overflow-mul-lower invariant_loop decreases_loop
+mul_lower c = omega arith
 
-shared-slice-read-lower : tie.Need-shared-slice-read-lower invariant-loop decreases-loop
-shared-slice-read-lower c = omega arith
+shared_slice_read_lower : tie.Need-shared-slice-read-lower invariant_loop decreases_loop
+shared_slice_read_lower c = omega arith
 
-lower-requires : tie.Need-lower-requires invariant-loop decreases-loop
-lower-requires c κs = tt
+lower_requires : tie.Need-lower-requires invariant_loop decreases_loop
+lower_requires c κs = tt
 
-add-i : tie.Need-overflow-add-i invariant-loop decreases-loop
-add-i c = omega arith
+add_i : tie.Need-overflow-add-i invariant_loop decreases_loop
+add_i c = omega arith
 
-loop-less : tie.Need-loop-smaller invariant-loop decreases-loop
-loop-less c = omega arith
+loop_less : tie.Need-loop-smaller invariant_loop decreases_loop
+loop_less c = omega arith
 
-loop-again : tie.Need-loop-preserved invariant-loop decreases-loop
-loop-again c = tt
+loop_again : tie.Need-loop-preserved invariant_loop decreases_loop
+loop_again c = tt
 
-returns : tie.Need-returns invariant-loop decreases-loop
+returns : tie.Need-returns invariant_loop decreases_loop
 returns c = tt
 
-pub lowest-spec : {M : Type 1} → statement M
-lowest-spec =
+pub lowest_spec : {M : Type 1} → statement M
+lowest_spec =
     tie.close
     (tie.spec
-    invariant-loop
-    decreases-loop
-    loop-holds
-    mul-lower
-    shared-slice-read-lower
-    lower-requires
-    add-i
-    loop-less
-    loop-again
+    invariant_loop
+    decreases_loop
+    loop_holds
+    mul_lower
+    shared_slice_read_lower
+    lower_requires
+    add_i
+    loop_less
+    loop_again
     returns)

@@ -3,55 +3,55 @@ use Rattle.std.proofs.Common.{◌-◌, arith}
 use Rattle.plainset.proofs.naive.with.Statement.{statement}
 use Rattle.plainset.proofs.naive.with.Tie as tie
 
-abbrev invariant-loop : tie.invariant-loop
-invariant-loop p pages₀ i₀ pages i = Unit {0}
+abbrev invariant_loop : tie.invariant_loop
+invariant_loop p pages₀ i₀ pages i = Unit {0}
 
-abbrev decreases-loop : tie.decreases-loop
-decreases-loop p pages₀ i₀ pages i = 256 - i
+abbrev decreases_loop : tie.decreases_loop
+decreases_loop p pages₀ i₀ pages i = 256 - i
 
-loop-holds : tie.Need-loop-init invariant-loop decreases-loop
-loop-holds c = tt
+loop_holds : tie.Need-loop-init invariant_loop decreases_loop
+loop_holds c = tt
 
-mul-if1 : tie.Need-overflow-mul-if1 invariant-loop decreases-loop
-mul-if1 c = omega arith
+mul_if1 : tie.Need-overflow-mul-if1 invariant_loop decreases_loop
+mul_if1 c = omega arith
 
-array-read-if1 : tie.Need-array-read-if1 invariant-loop decreases-loop
-array-read-if1 c = omega arith
+array_read_if1 : tie.Need-array-read-if1 invariant_loop decreases_loop
+array_read_if1 c = omega arith
 
-mul-pages : tie.Need-overflow-mul-pages invariant-loop decreases-loop
-mul-pages c = omega arith
+mul_pages : tie.Need-overflow-mul-pages invariant_loop decreases_loop
+mul_pages c = omega arith
 
-array-write-pages : tie.Need-array-write-pages invariant-loop decreases-loop
-array-write-pages c = omega arith
+array_write_pages : tie.Need-array-write-pages invariant_loop decreases_loop
+array_write_pages c = omega arith
 
-returns : tie.Need-returns invariant-loop decreases-loop
+returns : tie.Need-returns invariant_loop decreases_loop
 returns c = tt
 
-add-i : tie.Need-overflow-add-i invariant-loop decreases-loop
-add-i c = omega arith
+add_i : tie.Need-overflow-add-i invariant_loop decreases_loop
+add_i c = omega arith
 
-loop-less : tie.Need-loop-smaller invariant-loop decreases-loop
-loop-less c = omega arith
+loop_less : tie.Need-loop-smaller invariant_loop decreases_loop
+loop_less c = omega arith
 
-loop-again : tie.Need-loop-preserved invariant-loop decreases-loop
-loop-again c = tt
+loop_again : tie.Need-loop-preserved invariant_loop decreases_loop
+loop_again c = tt
 
-returns-2 : tie.Need-returns-2 invariant-loop decreases-loop
-returns-2 c = tt
+returns_2 : tie.Need-returns-2 invariant_loop decreases_loop
+returns_2 c = tt
 
-pub with-spec : {M : Type 1} → statement M
-with-spec =
+pub with_spec : {M : Type 1} → statement M
+with_spec =
     tie.close
     (tie.spec
-    invariant-loop
-    decreases-loop
-    loop-holds
-    mul-if1
-    array-read-if1
-    mul-pages
-    array-write-pages
+    invariant_loop
+    decreases_loop
+    loop_holds
+    mul_if1
+    array_read_if1
+    mul_pages
+    array_write_pages
     returns
-    add-i
-    loop-less
-    loop-again
-    returns-2)
+    add_i
+    loop_less
+    loop_again
+    returns_2)

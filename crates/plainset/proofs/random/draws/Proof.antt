@@ -3,47 +3,47 @@ use Rattle.std.proofs.Common.{◌-◌, arith}
 use Rattle.plainset.proofs.random.draws.Statement.{statement}
 use Rattle.plainset.proofs.random.draws.Tie as tie
 
-abbrev invariant-loop : tie.invariant-loop
-invariant-loop seed base list₀ i₀ list i = Unit {0}
+abbrev invariant_loop : tie.invariant_loop
+invariant_loop seed base list₀ i₀ list i = Unit {0}
 
-abbrev decreases-loop : tie.decreases-loop
-decreases-loop seed base list₀ i₀ list i = 128 - i
+abbrev decreases_loop : tie.decreases_loop
+decreases_loop seed base list₀ i₀ list i = 128 - i
 
-loop-holds : tie.Need-loop-init invariant-loop decreases-loop
-loop-holds c = tt
+loop_holds : tie.Need-loop-init invariant_loop decreases_loop
+loop_holds c = tt
 
-drawn-requires : tie.Need-drawn-requires invariant-loop decreases-loop
-drawn-requires c κs = tt
+drawn_requires : tie.Need-drawn-requires invariant_loop decreases_loop
+drawn_requires c κs = tt
 
-mul-list : tie.Need-overflow-mul-list invariant-loop decreases-loop
-mul-list c = omega arith
+mul_list : tie.Need-overflow-mul-list invariant_loop decreases_loop
+mul_list c = omega arith
 
-array-write-list : tie.Need-array-write-list invariant-loop decreases-loop
-array-write-list c = omega arith
+array_write_list : tie.Need-array-write-list invariant_loop decreases_loop
+array_write_list c = omega arith
 
-add-i : tie.Need-overflow-add-i invariant-loop decreases-loop
-add-i c = omega arith
+add_i : tie.Need-overflow-add-i invariant_loop decreases_loop
+add_i c = omega arith
 
-loop-less : tie.Need-loop-smaller invariant-loop decreases-loop
-loop-less c = omega arith
+loop_less : tie.Need-loop-smaller invariant_loop decreases_loop
+loop_less c = omega arith
 
-loop-again : tie.Need-loop-preserved invariant-loop decreases-loop
-loop-again c = tt
+loop_again : tie.Need-loop-preserved invariant_loop decreases_loop
+loop_again c = tt
 
-returns : tie.Need-returns invariant-loop decreases-loop
+returns : tie.Need-returns invariant_loop decreases_loop
 returns c = tt
 
-pub draws-spec : {M : Type 1} → statement M
-draws-spec =
+pub draws_spec : {M : Type 1} → statement M
+draws_spec =
     tie.close
     (tie.spec
-    invariant-loop
-    decreases-loop
-    loop-holds
-    drawn-requires
-    mul-list
-    array-write-list
-    add-i
-    loop-less
-    loop-again
+    invariant_loop
+    decreases_loop
+    loop_holds
+    drawn_requires
+    mul_list
+    array_write_list
+    add_i
+    loop_less
+    loop_again
     returns)

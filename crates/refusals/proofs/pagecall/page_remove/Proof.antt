@@ -4,8 +4,8 @@ use Rattle.refusals.proofs.Laws.{one_left}
 use Rattle.refusals.proofs.pagecall.page_remove.Statement.{statement}
 use Rattle.refusals.proofs.pagecall.page_remove.Tie as tie
 
-sigatuda-page-remove-requires : tie.Need-sigatuda-page-remove-requires
-sigatuda-page-remove-requires c κs = search rules
+sigatuda_page_remove_requires : tie.Need-sigatuda-page-remove-requires
+sigatuda_page_remove_requires c κs = search rules
 
 same_length : tie.Need-same-length
 same_length c = search rules
@@ -13,5 +13,5 @@ same_length c = search rules
 returns : tie.Need-returns
 returns c = one_left _ _ _ _ _ _ c.before.before.sigatuda-page-remove.ensures.0 c.before.before.sigatuda-page-remove.ensures.1
 
-pub page-remove-spec : {M : Type 1} → statement M
-page-remove-spec = tie.close (tie.spec sigatuda-page-remove-requires same_length returns)
+pub page_remove_spec : {M : Type 1} → statement M
+page_remove_spec = tie.close (tie.spec sigatuda_page_remove_requires same_length returns)

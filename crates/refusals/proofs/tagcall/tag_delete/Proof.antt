@@ -4,8 +4,8 @@ use Rattle.refusals.proofs.Laws.{one_left}
 use Rattle.refusals.proofs.tagcall.tag_delete.Statement.{statement}
 use Rattle.refusals.proofs.tagcall.tag_delete.Tie as tie
 
-sigatuda-tag-delete-requires : tie.Need-sigatuda-tag-delete-requires
-sigatuda-tag-delete-requires c κs = search rules
+sigatuda_tag_delete_requires : tie.Need-sigatuda-tag-delete-requires
+sigatuda_tag_delete_requires c κs = search rules
 
 same_length : tie.Need-same-length
 same_length c = search rules
@@ -13,5 +13,5 @@ same_length c = search rules
 returns : tie.Need-returns
 returns c = one_left _ _ _ _ _ _ c.before.before.sigatuda-tag-delete.ensures.0 c.before.before.sigatuda-tag-delete.ensures.1
 
-pub tag-delete-spec : {M : Type 1} → statement M
-tag-delete-spec = tie.close (tie.spec sigatuda-tag-delete-requires same_length returns)
+pub tag_delete_spec : {M : Type 1} → statement M
+tag_delete_spec = tie.close (tie.spec sigatuda_tag_delete_requires same_length returns)

@@ -4,8 +4,8 @@ use Rattle.refusals.proofs.Laws.{one_left}
 use Rattle.refusals.proofs.volumecall.volume_delete.Statement.{statement}
 use Rattle.refusals.proofs.volumecall.volume_delete.Tie as tie
 
-sigatuda-volume-delete-requires : tie.Need-sigatuda-volume-delete-requires
-sigatuda-volume-delete-requires c κs = search rules
+sigatuda_volume_delete_requires : tie.Need-sigatuda-volume-delete-requires
+sigatuda_volume_delete_requires c κs = search rules
 
 same_length : tie.Need-same-length
 same_length c = search rules
@@ -13,5 +13,5 @@ same_length c = search rules
 returns : tie.Need-returns
 returns c = one_left _ _ _ _ _ _ c.before.before.sigatuda-volume-delete.ensures.0 c.before.before.sigatuda-volume-delete.ensures.1
 
-pub volume-delete-spec : {M : Type 1} → statement M
-volume-delete-spec = tie.close (tie.spec sigatuda-volume-delete-requires same_length returns)
+pub volume_delete_spec : {M : Type 1} → statement M
+volume_delete_spec = tie.close (tie.spec sigatuda_volume_delete_requires same_length returns)

@@ -4,63 +4,63 @@ use native.Mathlib.Omega.{arith}
 use Rattle.replay.proofs.segments.places.Statement.{statement}
 use Rattle.replay.proofs.segments.places.Tie as tie
 
-abbrev invariant-loop : tie.invariant-loop
-invariant-loop lent₀ i₀ lent i = Unit {0}
+abbrev invariant_loop : tie.invariant_loop
+invariant_loop lent₀ i₀ lent i = Unit {0}
 
-abbrev decreases-loop : tie.decreases-loop
-decreases-loop lent₀ i₀ lent i = 2048 - i
+abbrev decreases_loop : tie.decreases_loop
+decreases_loop lent₀ i₀ lent i = 2048 - i
 
-loop-holds : tie.Need-loop-init invariant-loop decreases-loop
-loop-holds c = tt
+loop_holds : tie.Need-loop-init invariant_loop decreases_loop
+loop_holds c = tt
 
-cast-lent : tie.Need-overflow-cast-lent invariant-loop decreases-loop
-cast-lent c = omega arith
+cast_lent : tie.Need-overflow-cast-lent invariant_loop decreases_loop
+cast_lent c = omega arith
 
-mul-lent : tie.Need-overflow-mul-lent invariant-loop decreases-loop
-mul-lent c = omega arith
+mul_lent : tie.Need-overflow-mul-lent invariant_loop decreases_loop
+mul_lent c = omega arith
 
-array-write-lent : tie.Need-array-write-lent invariant-loop decreases-loop
-array-write-lent c = omega arith
+array_write_lent : tie.Need-array-write-lent invariant_loop decreases_loop
+array_write_lent c = omega arith
 
-cast-lent-2 : tie.Need-overflow-cast-lent-2 invariant-loop decreases-loop
-cast-lent-2 c = omega arith
+cast_lent_2 : tie.Need-overflow-cast-lent-2 invariant_loop decreases_loop
+cast_lent_2 c = omega arith
 
-mul-lent-2 : tie.Need-overflow-mul-lent-2 invariant-loop decreases-loop
-mul-lent-2 c = omega arith
+mul_lent_2 : tie.Need-overflow-mul-lent-2 invariant_loop decreases_loop
+mul_lent_2 c = omega arith
 
-add-lent : tie.Need-overflow-add-lent invariant-loop decreases-loop
-add-lent c = omega arith
+add_lent : tie.Need-overflow-add-lent invariant_loop decreases_loop
+add_lent c = omega arith
 
-array-write-lent-2 : tie.Need-array-write-lent-2 invariant-loop decreases-loop
-array-write-lent-2 c = omega arith
+array_write_lent_2 : tie.Need-array-write-lent-2 invariant_loop decreases_loop
+array_write_lent_2 c = omega arith
 
-add-i : tie.Need-overflow-add-i invariant-loop decreases-loop
-add-i c = omega arith
+add_i : tie.Need-overflow-add-i invariant_loop decreases_loop
+add_i c = omega arith
 
-loop-less : tie.Need-loop-smaller invariant-loop decreases-loop
-loop-less c = omega arith
+loop_less : tie.Need-loop-smaller invariant_loop decreases_loop
+loop_less c = omega arith
 
-loop-again : tie.Need-loop-preserved invariant-loop decreases-loop
-loop-again c = tt
+loop_again : tie.Need-loop-preserved invariant_loop decreases_loop
+loop_again c = tt
 
-returns : tie.Need-returns invariant-loop decreases-loop
+returns : tie.Need-returns invariant_loop decreases_loop
 returns c = tt
 
-pub places-spec : {M : Type 1} → statement M
-places-spec =
+pub places_spec : {M : Type 1} → statement M
+places_spec =
     tie.close
     (tie.spec
-    invariant-loop
-    decreases-loop
-    loop-holds
-    cast-lent
-    mul-lent
-    array-write-lent
-    cast-lent-2
-    mul-lent-2
-    add-lent
-    array-write-lent-2
-    add-i
-    loop-less
-    loop-again
+    invariant_loop
+    decreases_loop
+    loop_holds
+    cast_lent
+    mul_lent
+    array_write_lent
+    cast_lent_2
+    mul_lent_2
+    add_lent
+    array_write_lent_2
+    add_i
+    loop_less
+    loop_again
     returns)

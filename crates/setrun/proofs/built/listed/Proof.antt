@@ -3,59 +3,59 @@ use Rattle.std.proofs.Common.{◌-◌, arith}
 use Rattle.setrun.proofs.built.listed.Statement.{statement}
 use Rattle.setrun.proofs.built.listed.Tie as tie
 
-abbrev invariant-loop : tie.invariant-loop
-invariant-loop a b list₀ p₀ i₀ list p i = Unit {0}
+abbrev invariant_loop : tie.invariant_loop
+invariant_loop a b list₀ p₀ i₀ list p i = Unit {0}
 
-abbrev decreases-loop : tie.decreases-loop
-decreases-loop a b list₀ p₀ i₀ list p i = 2048 - i
+abbrev decreases_loop : tie.decreases_loop
+decreases_loop a b list₀ p₀ i₀ list p i = 2048 - i
 
-loop-holds : tie.Need-loop-init invariant-loop decreases-loop
-loop-holds c = tt
+loop_holds : tie.Need-loop-init invariant_loop decreases_loop
+loop_holds c = tt
 
-returns : tie.Need-returns invariant-loop decreases-loop
+returns : tie.Need-returns invariant_loop decreases_loop
 returns c = tt
 
-returns-2 : tie.Need-returns-2 invariant-loop decreases-loop
-returns-2 c = tt
+returns_2 : tie.Need-returns-2 invariant_loop decreases_loop
+returns_2 c = tt
 
-mul-list : tie.Need-overflow-mul-list invariant-loop decreases-loop
-mul-list c = omega arith
+mul_list : tie.Need-overflow-mul-list invariant_loop decreases_loop
+mul_list c = omega arith
 
-array-write-list : tie.Need-array-write-list invariant-loop decreases-loop
-array-write-list c = omega arith
+array_write_list : tie.Need-array-write-list invariant_loop decreases_loop
+array_write_list c = omega arith
 
-returns-3 : tie.Need-returns-3 invariant-loop decreases-loop
-returns-3 c = tt
+returns_3 : tie.Need-returns-3 invariant_loop decreases_loop
+returns_3 c = tt
 
-add-p : tie.Need-overflow-add-p invariant-loop decreases-loop
-add-p c = omega arith
+add_p : tie.Need-overflow-add-p invariant_loop decreases_loop
+add_p c = omega arith
 
-add-i : tie.Need-overflow-add-i invariant-loop decreases-loop
-add-i c = omega arith
+add_i : tie.Need-overflow-add-i invariant_loop decreases_loop
+add_i c = omega arith
 
-loop-less : tie.Need-loop-smaller invariant-loop decreases-loop
-loop-less c = omega arith
+loop_less : tie.Need-loop-smaller invariant_loop decreases_loop
+loop_less c = omega arith
 
-loop-again : tie.Need-loop-preserved invariant-loop decreases-loop
-loop-again c = tt
+loop_again : tie.Need-loop-preserved invariant_loop decreases_loop
+loop_again c = tt
 
-returns-4 : tie.Need-returns-4 invariant-loop decreases-loop
-returns-4 c = tt
+returns_4 : tie.Need-returns-4 invariant_loop decreases_loop
+returns_4 c = tt
 
-pub listed-spec : {M : Type 1} → statement M
-listed-spec =
+pub listed_spec : {M : Type 1} → statement M
+listed_spec =
     tie.close
     (tie.spec
-    invariant-loop
-    decreases-loop
-    loop-holds
+    invariant_loop
+    decreases_loop
+    loop_holds
     returns
-    returns-2
-    mul-list
-    array-write-list
-    returns-3
-    add-p
-    add-i
-    loop-less
-    loop-again
-    returns-4)
+    returns_2
+    mul_list
+    array_write_list
+    returns_3
+    add_p
+    add_i
+    loop_less
+    loop_again
+    returns_4)

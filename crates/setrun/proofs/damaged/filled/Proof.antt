@@ -3,47 +3,47 @@ use Rattle.std.proofs.Common.{◌-◌, arith}
 use Rattle.setrun.proofs.damaged.filled.Statement.{statement}
 use Rattle.setrun.proofs.damaged.filled.Tie as tie
 
-abbrev invariant-loop : tie.invariant-loop
-invariant-loop len windows₀ i₀ windows i = Unit {0}
+abbrev invariant_loop : tie.invariant_loop
+invariant_loop len windows₀ i₀ windows i = Unit {0}
 
-abbrev decreases-loop : tie.decreases-loop
-decreases-loop len windows₀ i₀ windows i = 32 - i
+abbrev decreases_loop : tie.decreases_loop
+decreases_loop len windows₀ i₀ windows i = 32 - i
 
-loop-holds : tie.Need-loop-init invariant-loop decreases-loop
-loop-holds c = tt
+loop_holds : tie.Need-loop-init invariant_loop decreases_loop
+loop_holds c = tt
 
-cast-t6 : tie.Need-overflow-cast-t6 invariant-loop decreases-loop
-cast-t6 c = omega arith
+cast_t6 : tie.Need-overflow-cast-t6 invariant_loop decreases_loop
+cast_t6 c = omega arith
 
-mul-windows : tie.Need-overflow-mul-windows invariant-loop decreases-loop
-mul-windows c = omega arith
+mul_windows : tie.Need-overflow-mul-windows invariant_loop decreases_loop
+mul_windows c = omega arith
 
-array-set-from-windows : tie.Need-array-set-from-windows invariant-loop decreases-loop
-array-set-from-windows c = omega arith
+array_set_from_windows : tie.Need-array-set-from-windows invariant_loop decreases_loop
+array_set_from_windows c = omega arith
 
-add-i : tie.Need-overflow-add-i invariant-loop decreases-loop
-add-i c = omega arith
+add_i : tie.Need-overflow-add-i invariant_loop decreases_loop
+add_i c = omega arith
 
-loop-less : tie.Need-loop-smaller invariant-loop decreases-loop
-loop-less c = omega arith
+loop_less : tie.Need-loop-smaller invariant_loop decreases_loop
+loop_less c = omega arith
 
-loop-again : tie.Need-loop-preserved invariant-loop decreases-loop
-loop-again c = tt
+loop_again : tie.Need-loop-preserved invariant_loop decreases_loop
+loop_again c = tt
 
-returns : tie.Need-returns invariant-loop decreases-loop
+returns : tie.Need-returns invariant_loop decreases_loop
 returns c = tt
 
-pub filled-spec : {M : Type 1} → statement M
-filled-spec =
+pub filled_spec : {M : Type 1} → statement M
+filled_spec =
     tie.close
     (tie.spec
-    invariant-loop
-    decreases-loop
-    loop-holds
-    cast-t6
-    mul-windows
-    array-set-from-windows
-    add-i
-    loop-less
-    loop-again
+    invariant_loop
+    decreases_loop
+    loop_holds
+    cast_t6
+    mul_windows
+    array_set_from_windows
+    add_i
+    loop_less
+    loop_again
     returns)

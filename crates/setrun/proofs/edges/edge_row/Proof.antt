@@ -3,43 +3,43 @@ use Rattle.std.proofs.Common.{◌-◌, arith}
 use Rattle.setrun.proofs.edges.edge_row.Statement.{statement}
 use Rattle.setrun.proofs.edges.edge_row.Tie as tie
 
-abbrev invariant-loop : tie.invariant-loop
-invariant-loop a sum₀ i₀ sum i = Unit {0}
+abbrev invariant_loop : tie.invariant_loop
+invariant_loop a sum₀ i₀ sum i = Unit {0}
 
-abbrev decreases-loop : tie.decreases-loop
-decreases-loop a sum₀ i₀ sum i = 20 - i
+abbrev decreases_loop : tie.decreases_loop
+decreases_loop a sum₀ i₀ sum i = 20 - i
 
-loop-holds : tie.Need-loop-init invariant-loop decreases-loop
-loop-holds c = tt
+loop_holds : tie.Need-loop-init invariant_loop decreases_loop
+loop_holds c = tt
 
-edge-requires : tie.Need-edge-requires invariant-loop decreases-loop
-edge-requires c κs = tt
+edge_requires : tie.Need-edge-requires invariant_loop decreases_loop
+edge_requires c κs = tt
 
-edge-range-requires : tie.Need-edge-range-requires invariant-loop decreases-loop
-edge-range-requires c κs = tt
+edge_range_requires : tie.Need-edge-range-requires invariant_loop decreases_loop
+edge_range_requires c κs = tt
 
-add-i : tie.Need-overflow-add-i invariant-loop decreases-loop
-add-i c = omega arith
+add_i : tie.Need-overflow-add-i invariant_loop decreases_loop
+add_i c = omega arith
 
-loop-less : tie.Need-loop-smaller invariant-loop decreases-loop
-loop-less c = omega arith
+loop_less : tie.Need-loop-smaller invariant_loop decreases_loop
+loop_less c = omega arith
 
-loop-again : tie.Need-loop-preserved invariant-loop decreases-loop
-loop-again c = tt
+loop_again : tie.Need-loop-preserved invariant_loop decreases_loop
+loop_again c = tt
 
-returns : tie.Need-returns invariant-loop decreases-loop
+returns : tie.Need-returns invariant_loop decreases_loop
 returns c = tt
 
-pub edge-row-spec : {M : Type 1} → statement M
-edge-row-spec =
+pub edge_row_spec : {M : Type 1} → statement M
+edge_row_spec =
     tie.close
     (tie.spec
-    invariant-loop
-    decreases-loop
-    loop-holds
-    edge-requires
-    edge-range-requires
-    add-i
-    loop-less
-    loop-again
+    invariant_loop
+    decreases_loop
+    loop_holds
+    edge_requires
+    edge_range_requires
+    add_i
+    loop_less
+    loop_again
     returns)

@@ -3,47 +3,47 @@ use Rattle.std.proofs.Common.{◌-◌, arith}
 use Rattle.setrun.proofs.edges.edge_set.Statement.{statement}
 use Rattle.setrun.proofs.edges.edge_set.Tie as tie
 
-abbrev invariant-loop : tie.invariant-loop
-invariant-loop from h₀ i₀ h i = Unit {0}
+abbrev invariant_loop : tie.invariant_loop
+invariant_loop from h₀ i₀ h i = Unit {0}
 
-abbrev decreases-loop : tie.decreases-loop
-decreases-loop from h₀ i₀ h i = 20 - i
+abbrev decreases_loop : tie.decreases_loop
+decreases_loop from h₀ i₀ h i = 20 - i
 
-empty-requires : tie.Need-empty-requires invariant-loop decreases-loop
-empty-requires c κs = tt
+empty_requires : tie.Need-empty-requires invariant_loop decreases_loop
+empty_requires c κs = tt
 
-loop-holds : tie.Need-loop-init invariant-loop decreases-loop
-loop-holds c = tt
+loop_holds : tie.Need-loop-init invariant_loop decreases_loop
+loop_holds c = tt
 
-edge-requires : tie.Need-edge-requires invariant-loop decreases-loop
-edge-requires c κs = tt
+edge_requires : tie.Need-edge-requires invariant_loop decreases_loop
+edge_requires c κs = tt
 
-grown-requires : tie.Need-grown-requires invariant-loop decreases-loop
-grown-requires c κs = tt
+grown_requires : tie.Need-grown-requires invariant_loop decreases_loop
+grown_requires c κs = tt
 
-add-i : tie.Need-overflow-add-i invariant-loop decreases-loop
-add-i c = omega arith
+add_i : tie.Need-overflow-add-i invariant_loop decreases_loop
+add_i c = omega arith
 
-loop-less : tie.Need-loop-smaller invariant-loop decreases-loop
-loop-less c = omega arith
+loop_less : tie.Need-loop-smaller invariant_loop decreases_loop
+loop_less c = omega arith
 
-loop-again : tie.Need-loop-preserved invariant-loop decreases-loop
-loop-again c = tt
+loop_again : tie.Need-loop-preserved invariant_loop decreases_loop
+loop_again c = tt
 
-returns : tie.Need-returns invariant-loop decreases-loop
+returns : tie.Need-returns invariant_loop decreases_loop
 returns c = tt
 
-pub edge-set-spec : {M : Type 1} → statement M
-edge-set-spec =
+pub edge_set_spec : {M : Type 1} → statement M
+edge_set_spec =
     tie.close
     (tie.spec
-    invariant-loop
-    decreases-loop
-    empty-requires
-    loop-holds
-    edge-requires
-    grown-requires
-    add-i
-    loop-less
-    loop-again
+    invariant_loop
+    decreases_loop
+    empty_requires
+    loop_holds
+    edge_requires
+    grown_requires
+    add_i
+    loop_less
+    loop_again
     returns)

@@ -3,51 +3,51 @@ use Rattle.std.proofs.Common.{◌-◌, arith}
 use Rattle.setrun.proofs.edges.on_row.Statement.{statement}
 use Rattle.setrun.proofs.edges.on_row.Tie as tie
 
-abbrev invariant-loop : tie.invariant-loop
-invariant-loop h a sum₀ i₀ sum i = Unit {0}
+abbrev invariant_loop : tie.invariant_loop
+invariant_loop h a sum₀ i₀ sum i = Unit {0}
 
-abbrev decreases-loop : tie.decreases-loop
-decreases-loop h a sum₀ i₀ sum i = 20 - i
+abbrev decreases_loop : tie.decreases_loop
+decreases_loop h a sum₀ i₀ sum i = 20 - i
 
-insert-requires : tie.Need-insert-requires invariant-loop decreases-loop
-insert-requires c κs = tt
+insert_requires : tie.Need-insert-requires invariant_loop decreases_loop
+insert_requires c κs = tt
 
-truncate-requires : tie.Need-truncate-requires invariant-loop decreases-loop
-truncate-requires c κs = tt
+truncate_requires : tie.Need-truncate-requires invariant_loop decreases_loop
+truncate_requires c κs = tt
 
-loop-holds : tie.Need-loop-init invariant-loop decreases-loop
-loop-holds c = tt
+loop_holds : tie.Need-loop-init invariant_loop decreases_loop
+loop_holds c = tt
 
-edge-requires : tie.Need-edge-requires invariant-loop decreases-loop
-edge-requires c κs = tt
+edge_requires : tie.Need-edge-requires invariant_loop decreases_loop
+edge_requires c κs = tt
 
-on-edges-requires : tie.Need-on-edges-requires invariant-loop decreases-loop
-on-edges-requires c κs = tt
+on_edges_requires : tie.Need-on-edges-requires invariant_loop decreases_loop
+on_edges_requires c κs = tt
 
-add-i : tie.Need-overflow-add-i invariant-loop decreases-loop
-add-i c = omega arith
+add_i : tie.Need-overflow-add-i invariant_loop decreases_loop
+add_i c = omega arith
 
-loop-less : tie.Need-loop-smaller invariant-loop decreases-loop
-loop-less c = omega arith
+loop_less : tie.Need-loop-smaller invariant_loop decreases_loop
+loop_less c = omega arith
 
-loop-again : tie.Need-loop-preserved invariant-loop decreases-loop
-loop-again c = tt
+loop_again : tie.Need-loop-preserved invariant_loop decreases_loop
+loop_again c = tt
 
-returns : tie.Need-returns invariant-loop decreases-loop
+returns : tie.Need-returns invariant_loop decreases_loop
 returns c = tt
 
-pub on-row-spec : {M : Type 1} → statement M
-on-row-spec =
+pub on_row_spec : {M : Type 1} → statement M
+on_row_spec =
     tie.close
     (tie.spec
-    invariant-loop
-    decreases-loop
-    insert-requires
-    truncate-requires
-    loop-holds
-    edge-requires
-    on-edges-requires
-    add-i
-    loop-less
-    loop-again
+    invariant_loop
+    decreases_loop
+    insert_requires
+    truncate_requires
+    loop_holds
+    edge_requires
+    on_edges_requires
+    add_i
+    loop_less
+    loop_again
     returns)

@@ -3,47 +3,47 @@ use Rattle.std.proofs.Common.{◌-◌, arith}
 use Rattle.setrun.proofs.edges.on_set.Statement.{statement}
 use Rattle.setrun.proofs.edges.on_set.Tie as tie
 
-abbrev invariant-loop : tie.invariant-loop
-invariant-loop h sum₀ i₀ sum i = Unit {0}
+abbrev invariant_loop : tie.invariant_loop
+invariant_loop h sum₀ i₀ sum i = Unit {0}
 
-abbrev decreases-loop : tie.decreases-loop
-decreases-loop h sum₀ i₀ sum i = 20 - i
+abbrev decreases_loop : tie.decreases_loop
+decreases_loop h sum₀ i₀ sum i = 20 - i
 
-own-requires : tie.Need-own-requires invariant-loop decreases-loop
-own-requires c κs = tt
+own_requires : tie.Need-own-requires invariant_loop decreases_loop
+own_requires c κs = tt
 
-loop-holds : tie.Need-loop-init invariant-loop decreases-loop
-loop-holds c = tt
+loop_holds : tie.Need-loop-init invariant_loop decreases_loop
+loop_holds c = tt
 
-edge-requires : tie.Need-edge-requires invariant-loop decreases-loop
-edge-requires c κs = tt
+edge_requires : tie.Need-edge-requires invariant_loop decreases_loop
+edge_requires c κs = tt
 
-on-row-requires : tie.Need-on-row-requires invariant-loop decreases-loop
-on-row-requires c κs = tt
+on_row_requires : tie.Need-on-row-requires invariant_loop decreases_loop
+on_row_requires c κs = tt
 
-add-i : tie.Need-overflow-add-i invariant-loop decreases-loop
-add-i c = omega arith
+add_i : tie.Need-overflow-add-i invariant_loop decreases_loop
+add_i c = omega arith
 
-loop-less : tie.Need-loop-smaller invariant-loop decreases-loop
-loop-less c = omega arith
+loop_less : tie.Need-loop-smaller invariant_loop decreases_loop
+loop_less c = omega arith
 
-loop-again : tie.Need-loop-preserved invariant-loop decreases-loop
-loop-again c = tt
+loop_again : tie.Need-loop-preserved invariant_loop decreases_loop
+loop_again c = tt
 
-returns : tie.Need-returns invariant-loop decreases-loop
+returns : tie.Need-returns invariant_loop decreases_loop
 returns c = tt
 
-pub on-set-spec : {M : Type 1} → statement M
-on-set-spec =
+pub on_set_spec : {M : Type 1} → statement M
+on_set_spec =
     tie.close
     (tie.spec
-    invariant-loop
-    decreases-loop
-    own-requires
-    loop-holds
-    edge-requires
-    on-row-requires
-    add-i
-    loop-less
-    loop-again
+    invariant_loop
+    decreases_loop
+    own_requires
+    loop_holds
+    edge_requires
+    on_row_requires
+    add_i
+    loop_less
+    loop_again
     returns)

@@ -3,47 +3,47 @@ use Rattle.std.proofs.Common.{◌-◌, arith}
 use Rattle.setrun.proofs.edges.ranges.Statement.{statement}
 use Rattle.setrun.proofs.edges.ranges.Tie as tie
 
-abbrev invariant-loop : tie.invariant-loop
-invariant-loop sum₀ i₀ sum i = Unit {0}
+abbrev invariant_loop : tie.invariant_loop
+invariant_loop sum₀ i₀ sum i = Unit {0}
 
-abbrev decreases-loop : tie.decreases-loop
-decreases-loop sum₀ i₀ sum i = 20 - i
+abbrev decreases_loop : tie.decreases_loop
+decreases_loop sum₀ i₀ sum i = 20 - i
 
-none-requires : tie.Need-none-requires invariant-loop decreases-loop
-none-requires c κs = tt
+none_requires : tie.Need-none-requires invariant_loop decreases_loop
+none_requires c κs = tt
 
-loop-holds : tie.Need-loop-init invariant-loop decreases-loop
-loop-holds c = tt
+loop_holds : tie.Need-loop-init invariant_loop decreases_loop
+loop_holds c = tt
 
-edge-requires : tie.Need-edge-requires invariant-loop decreases-loop
-edge-requires c κs = tt
+edge_requires : tie.Need-edge-requires invariant_loop decreases_loop
+edge_requires c κs = tt
 
-edge-row-requires : tie.Need-edge-row-requires invariant-loop decreases-loop
-edge-row-requires c κs = tt
+edge_row_requires : tie.Need-edge-row-requires invariant_loop decreases_loop
+edge_row_requires c κs = tt
 
-add-i : tie.Need-overflow-add-i invariant-loop decreases-loop
-add-i c = omega arith
+add_i : tie.Need-overflow-add-i invariant_loop decreases_loop
+add_i c = omega arith
 
-loop-less : tie.Need-loop-smaller invariant-loop decreases-loop
-loop-less c = omega arith
+loop_less : tie.Need-loop-smaller invariant_loop decreases_loop
+loop_less c = omega arith
 
-loop-again : tie.Need-loop-preserved invariant-loop decreases-loop
-loop-again c = tt
+loop_again : tie.Need-loop-preserved invariant_loop decreases_loop
+loop_again c = tt
 
-returns : tie.Need-returns invariant-loop decreases-loop
+returns : tie.Need-returns invariant_loop decreases_loop
 returns c = tt
 
-pub ranges-spec : {M : Type 1} → statement M
-ranges-spec =
+pub ranges_spec : {M : Type 1} → statement M
+ranges_spec =
     tie.close
     (tie.spec
-    invariant-loop
-    decreases-loop
-    none-requires
-    loop-holds
-    edge-requires
-    edge-row-requires
-    add-i
-    loop-less
-    loop-again
+    invariant_loop
+    decreases_loop
+    none_requires
+    loop_holds
+    edge_requires
+    edge_row_requires
+    add_i
+    loop_less
+    loop_again
     returns)

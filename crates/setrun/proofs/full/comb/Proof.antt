@@ -3,47 +3,47 @@ use Rattle.std.proofs.Common.{◌-◌, arith}
 use Rattle.setrun.proofs.full.comb.Statement.{statement}
 use Rattle.setrun.proofs.full.comb.Tie as tie
 
-abbrev invariant-loop : tie.invariant-loop
-invariant-loop a step n h₀ p₀ i₀ h p i = Unit {0}
+abbrev invariant_loop : tie.invariant_loop
+invariant_loop a step n h₀ p₀ i₀ h p i = Unit {0}
 
-abbrev decreases-loop : tie.decreases-loop
-decreases-loop a step n h₀ p₀ i₀ h p i = n - i
+abbrev decreases_loop : tie.decreases_loop
+decreases_loop a step n h₀ p₀ i₀ h p i = n - i
 
-empty-requires : tie.Need-empty-requires invariant-loop decreases-loop
-empty-requires c κs = tt
+empty_requires : tie.Need-empty-requires invariant_loop decreases_loop
+empty_requires c κs = tt
 
-loop-holds : tie.Need-loop-init invariant-loop decreases-loop
-loop-holds c = tt
+loop_holds : tie.Need-loop-init invariant_loop decreases_loop
+loop_holds c = tt
 
-grown-requires : tie.Need-grown-requires invariant-loop decreases-loop
-grown-requires c κs = tt
+grown_requires : tie.Need-grown-requires invariant_loop decreases_loop
+grown_requires c κs = tt
 
-wrapping-add-u32-requires : tie.Need-wrapping-add-u32-requires invariant-loop decreases-loop
-wrapping-add-u32-requires c κs = tt
+wrapping_add_u32_requires : tie.Need-wrapping-add-u32-requires invariant_loop decreases_loop
+wrapping_add_u32_requires c κs = tt
 
-add-i : tie.Need-overflow-add-i invariant-loop decreases-loop
-add-i c = omega arith
+add_i : tie.Need-overflow-add-i invariant_loop decreases_loop
+add_i c = omega arith
 
-loop-less : tie.Need-loop-smaller invariant-loop decreases-loop
-loop-less c = omega arith
+loop_less : tie.Need-loop-smaller invariant_loop decreases_loop
+loop_less c = omega arith
 
-loop-again : tie.Need-loop-preserved invariant-loop decreases-loop
-loop-again c = tt
+loop_again : tie.Need-loop-preserved invariant_loop decreases_loop
+loop_again c = tt
 
-returns : tie.Need-returns invariant-loop decreases-loop
+returns : tie.Need-returns invariant_loop decreases_loop
 returns c = tt
 
-pub comb-spec : {M : Type 1} → statement M
-comb-spec =
+pub comb_spec : {M : Type 1} → statement M
+comb_spec =
     tie.close
     (tie.spec
-    invariant-loop
-    decreases-loop
-    empty-requires
-    loop-holds
-    grown-requires
-    wrapping-add-u32-requires
-    add-i
-    loop-less
-    loop-again
+    invariant_loop
+    decreases_loop
+    empty_requires
+    loop_holds
+    grown_requires
+    wrapping_add_u32_requires
+    add_i
+    loop_less
+    loop_again
     returns)

@@ -3,47 +3,47 @@ use Rattle.std.proofs.Common.{◌-◌, arith}
 use Rattle.setrun.proofs.rounds.all.Statement.{statement}
 use Rattle.setrun.proofs.rounds.all.Tie as tie
 
-abbrev invariant-loop : tie.invariant-loop
-invariant-loop sum₀ k₀ sum k = Unit {0}
+abbrev invariant_loop : tie.invariant_loop
+invariant_loop sum₀ k₀ sum k = Unit {0}
 
-abbrev decreases-loop : tie.decreases-loop
-decreases-loop sum₀ k₀ sum k = 240 - k
+abbrev decreases_loop : tie.decreases_loop
+decreases_loop sum₀ k₀ sum k = 240 - k
 
-none-requires : tie.Need-none-requires invariant-loop decreases-loop
-none-requires c κs = tt
+none_requires : tie.Need-none-requires invariant_loop decreases_loop
+none_requires c κs = tt
 
-loop-holds : tie.Need-loop-init invariant-loop decreases-loop
-loop-holds c = tt
+loop_holds : tie.Need-loop-init invariant_loop decreases_loop
+loop_holds c = tt
 
-pick-requires : tie.Need-pick-requires invariant-loop decreases-loop
-pick-requires c κs = tt
+pick_requires : tie.Need-pick-requires invariant_loop decreases_loop
+pick_requires c κs = tt
 
-round-requires : tie.Need-round-requires invariant-loop decreases-loop
-round-requires c κs = tt
+round_requires : tie.Need-round-requires invariant_loop decreases_loop
+round_requires c κs = tt
 
-add-k : tie.Need-overflow-add-k invariant-loop decreases-loop
-add-k c = omega arith
+add_k : tie.Need-overflow-add-k invariant_loop decreases_loop
+add_k c = omega arith
 
-loop-less : tie.Need-loop-smaller invariant-loop decreases-loop
-loop-less c = omega arith
+loop_less : tie.Need-loop-smaller invariant_loop decreases_loop
+loop_less c = omega arith
 
-loop-again : tie.Need-loop-preserved invariant-loop decreases-loop
-loop-again c = tt
+loop_again : tie.Need-loop-preserved invariant_loop decreases_loop
+loop_again c = tt
 
-returns : tie.Need-returns invariant-loop decreases-loop
+returns : tie.Need-returns invariant_loop decreases_loop
 returns c = tt
 
-pub all-spec : {M : Type 1} → statement M
-all-spec =
+pub all_spec : {M : Type 1} → statement M
+all_spec =
     tie.close
     (tie.spec
-    invariant-loop
-    decreases-loop
-    none-requires
-    loop-holds
-    pick-requires
-    round-requires
-    add-k
-    loop-less
-    loop-again
+    invariant_loop
+    decreases_loop
+    none_requires
+    loop_holds
+    pick_requires
+    round_requires
+    add_k
+    loop_less
+    loop_again
     returns)

@@ -3,63 +3,63 @@ use Rattle.std.proofs.Common.{◌-◌, length, arith}
 use Rattle.setrun.proofs.rounds.building.Statement.{statement}
 use Rattle.setrun.proofs.rounds.building.Tie as tie
 
-abbrev invariant-loop : tie.invariant-loop
-invariant-loop draws sum₀ h₀ i₀ sum h i = Unit {0}
+abbrev invariant_loop : tie.invariant_loop
+invariant_loop draws sum₀ h₀ i₀ sum h i = Unit {0}
 
-abbrev decreases-loop : tie.decreases-loop
-decreases-loop draws sum₀ h₀ i₀ sum h i = length draws - i
+abbrev decreases_loop : tie.decreases_loop
+decreases_loop draws sum₀ h₀ i₀ sum h i = length draws - i
 
-empty-requires : tie.Need-empty-requires invariant-loop decreases-loop
-empty-requires c κs = tt
+empty_requires : tie.Need-empty-requires invariant_loop decreases_loop
+empty_requires c κs = tt
 
-loop-holds : tie.Need-loop-init invariant-loop decreases-loop
-loop-holds c = tt
+loop_holds : tie.Need-loop-init invariant_loop decreases_loop
+loop_holds c = tt
 
-mul-insert-number : tie.Need-overflow-mul-insert-number invariant-loop decreases-loop
-mul-insert-number c = omega arith
+mul_insert_number : tie.Need-overflow-mul-insert-number invariant_loop decreases_loop
+mul_insert_number c = omega arith
 
-shared-slice-read-insert-number : tie.Need-shared-slice-read-insert-number invariant-loop decreases-loop
-shared-slice-read-insert-number c = omega arith
+shared_slice_read_insert_number : tie.Need-shared-slice-read-insert-number invariant_loop decreases_loop
+shared_slice_read_insert_number c = omega arith
 
-insert-number-requires : tie.Need-insert-number-requires invariant-loop decreases-loop
-insert-number-requires c κs = tt
+insert_number_requires : tie.Need-insert-number-requires invariant_loop decreases_loop
+insert_number_requires c κs = tt
 
-mul-grown : tie.Need-overflow-mul-grown invariant-loop decreases-loop
-mul-grown c = omega arith
+mul_grown : tie.Need-overflow-mul-grown invariant_loop decreases_loop
+mul_grown c = omega arith
 
-shared-slice-read-grown : tie.Need-shared-slice-read-grown invariant-loop decreases-loop
-shared-slice-read-grown c = omega arith
+shared_slice_read_grown : tie.Need-shared-slice-read-grown invariant_loop decreases_loop
+shared_slice_read_grown c = omega arith
 
-grown-requires : tie.Need-grown-requires invariant-loop decreases-loop
-grown-requires c κs = tt
+grown_requires : tie.Need-grown-requires invariant_loop decreases_loop
+grown_requires c κs = tt
 
-add-i : tie.Need-overflow-add-i invariant-loop decreases-loop
-add-i c = omega arith
+add_i : tie.Need-overflow-add-i invariant_loop decreases_loop
+add_i c = omega arith
 
-loop-less : tie.Need-loop-smaller invariant-loop decreases-loop
-loop-less c = omega arith
+loop_less : tie.Need-loop-smaller invariant_loop decreases_loop
+loop_less c = omega arith
 
-loop-again : tie.Need-loop-preserved invariant-loop decreases-loop
-loop-again c = tt
+loop_again : tie.Need-loop-preserved invariant_loop decreases_loop
+loop_again c = tt
 
-returns : tie.Need-returns invariant-loop decreases-loop
+returns : tie.Need-returns invariant_loop decreases_loop
 returns c = tt
 
-pub building-spec : {M : Type 1} → statement M
-building-spec =
+pub building_spec : {M : Type 1} → statement M
+building_spec =
     tie.close
     (tie.spec
-    invariant-loop
-    decreases-loop
-    empty-requires
-    loop-holds
-    mul-insert-number
-    shared-slice-read-insert-number
-    insert-number-requires
-    mul-grown
-    shared-slice-read-grown
-    grown-requires
-    add-i
-    loop-less
-    loop-again
+    invariant_loop
+    decreases_loop
+    empty_requires
+    loop_holds
+    mul_insert_number
+    shared_slice_read_insert_number
+    insert_number_requires
+    mul_grown
+    shared_slice_read_grown
+    grown_requires
+    add_i
+    loop_less
+    loop_again
     returns)

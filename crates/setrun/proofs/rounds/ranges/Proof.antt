@@ -3,43 +3,43 @@ use Rattle.std.proofs.Common.{◌-◌, arith}
 use Rattle.setrun.proofs.rounds.ranges.Statement.{statement}
 use Rattle.setrun.proofs.rounds.ranges.Tie as tie
 
-abbrev invariant-loop : tie.invariant-loop
-invariant-loop h seed base sum₀ k₀ sum k = Unit {0}
+abbrev invariant_loop : tie.invariant_loop
+invariant_loop h seed base sum₀ k₀ sum k = Unit {0}
 
-abbrev decreases-loop : tie.decreases-loop
-decreases-loop h seed base sum₀ k₀ sum k = 10 - k
+abbrev decreases_loop : tie.decreases_loop
+decreases_loop h seed base sum₀ k₀ sum k = 10 - k
 
-loop-holds : tie.Need-loop-init invariant-loop decreases-loop
-loop-holds c = tt
+loop_holds : tie.Need-loop-init invariant_loop decreases_loop
+loop_holds c = tt
 
-pick-requires : tie.Need-pick-requires invariant-loop decreases-loop
-pick-requires c κs = tt
+pick_requires : tie.Need-pick-requires invariant_loop decreases_loop
+pick_requires c κs = tt
 
-range-requires : tie.Need-range-requires invariant-loop decreases-loop
-range-requires c κs = tt
+range_requires : tie.Need-range-requires invariant_loop decreases_loop
+range_requires c κs = tt
 
-add-k : tie.Need-overflow-add-k invariant-loop decreases-loop
-add-k c = omega arith
+add_k : tie.Need-overflow-add-k invariant_loop decreases_loop
+add_k c = omega arith
 
-loop-less : tie.Need-loop-smaller invariant-loop decreases-loop
-loop-less c = omega arith
+loop_less : tie.Need-loop-smaller invariant_loop decreases_loop
+loop_less c = omega arith
 
-loop-again : tie.Need-loop-preserved invariant-loop decreases-loop
-loop-again c = tt
+loop_again : tie.Need-loop-preserved invariant_loop decreases_loop
+loop_again c = tt
 
-returns : tie.Need-returns invariant-loop decreases-loop
+returns : tie.Need-returns invariant_loop decreases_loop
 returns c = tt
 
-pub ranges-spec : {M : Type 1} → statement M
-ranges-spec =
+pub ranges_spec : {M : Type 1} → statement M
+ranges_spec =
     tie.close
     (tie.spec
-    invariant-loop
-    decreases-loop
-    loop-holds
-    pick-requires
-    range-requires
-    add-k
-    loop-less
-    loop-again
+    invariant_loop
+    decreases_loop
+    loop_holds
+    pick_requires
+    range_requires
+    add_k
+    loop_less
+    loop_again
     returns)

@@ -3,11 +3,11 @@ use Rattle.std.proofs.Common.{rules}
 use Rattle.volume.proofs.snapshot.refused.Statement.{statement}
 use Rattle.volume.proofs.snapshot.refused.Tie as tie
 
-empty-requires : tie.Need-empty-requires
-empty-requires c κs = search rules
+empty_requires : tie.Need-empty-requires
+empty_requires c κs = search rules
 
 returns : tie.Need-returns
 returns c = rw c.empty.ensures
 
-pub refused-spec : {M : Type 1} → statement M
-refused-spec = tie.close (tie.spec empty-requires returns)
+pub refused_spec : {M : Type 1} → statement M
+refused_spec = tie.close (tie.spec empty_requires returns)

@@ -6,14 +6,14 @@ use Rattle.volume.proofs.volume.counts_or_missing.Tie as tie
 enum_told : tie.Need-enum-told
 enum_told c = search rules
 
-enum-known-n : tie.Need-enum-known-n
-enum-known-n c = search rules
+enum_known_n : tie.Need-enum-known-n
+enum_known_n c = search rules
 
 returns : tie.Need-returns
 returns c = search rules
 
-returns-2 : tie.Need-returns-2
-returns-2 c = rw c.before.before.n.given.1
+returns_2 : tie.Need-returns-2
+returns_2 c = rw c.before.before.n.given.1
 
-pub counts-or-missing-spec : {M : Type 1} → statement M
-counts-or-missing-spec = tie.close (tie.spec enum_told enum-known-n returns returns-2)
+pub counts_or_missing_spec : {M : Type 1} → statement M
+counts_or_missing_spec = tie.close (tie.spec enum_told enum_known_n returns returns_2)

@@ -1,53 +1,53 @@
 -- The three ways out are the three cases of the flag.
 use Rattle.std.proofs.Common.{rules}
-use Rattle.layout.specs.Records.{pendingBytes}
-use Rattle.rules.specs.Forms.{pendingForm}
-use Rattle.layout.proofs.PlaceLaws.{flag-none, flag-wrong, flag-there}
+use Rattle.layout.specs.Records.{pending_bytes}
+use Rattle.rules.specs.Forms.{pending_form}
+use Rattle.layout.proofs.PlaceLaws.{flag_none, flag_wrong, flag_there}
 use Rattle.volumebytes.proofs.pending.pending_form.Statement.{statement}
 use Rattle.volumebytes.proofs.pending.pending_form.Tie as tie
 
-load8-requires : tie.Need-load8-requires
-load8-requires c κs = search rules
+load8_requires : tie.Need-load8-requires
+load8_requires c κs = search rules
 
-add-all-zero : tie.Need-overflow-add-all-zero
-add-all-zero c = search rules
+add_all_zero : tie.Need-overflow-add-all-zero
+add_all_zero c = search rules
 
-all-zero-requires : tie.Need-all-zero-requires
-all-zero-requires c κs = search rules
+all_zero_requires : tie.Need-all-zero-requires
+all_zero_requires c κs = search rules
 
 returns : tie.Need-returns
-unfolding pendingBytes
+unfolding pending_bytes
 returns c =
     let t = c.before.before.before.before.args in
-    flag-none t.s.now (λ j. (c.before.before.before.shared-slice-known.given j).fits) t.at pendingBytes pendingForm c.before.before.before.before.requires _ c.before.before.load8.ensures _ c.before.if1.true c.all-zero.ensures
+    flag_none t.s.now (λ j. (c.before.before.before.shared-slice-known.given j).fits) t.at pending_bytes pending_form c.before.before.before.before.requires _ c.before.before.load8.ensures _ c.before.if1.true c.all-zero.ensures
 
-returns-2 : tie.Need-returns-2
-unfolding pendingBytes
-returns-2 c =
+returns_2 : tie.Need-returns-2
+unfolding pending_bytes
+returns_2 c =
     let t = c.before.before.before.before.args in
-    flag-wrong t.s.now (λ j. (c.before.before.before.shared-slice-known.given j).fits) t.at pendingBytes pendingForm c.before.before.before.before.requires _ c.before.before.load8.ensures c.before.if1.false c.if2.true
+    flag_wrong t.s.now (λ j. (c.before.before.before.shared-slice-known.given j).fits) t.at pending_bytes pending_form c.before.before.before.before.requires _ c.before.before.load8.ensures c.before.if1.false c.if2.true
 
-add-commit-form : tie.Need-overflow-add-commit-form
-add-commit-form c = search rules
+add_commit_form : tie.Need-overflow-add-commit-form
+add_commit_form c = search rules
 
-commit-form-requires : tie.Need-commit-form-requires
-commit-form-requires c κs = search rules
+commit_form_requires : tie.Need-commit-form-requires
+commit_form_requires c κs = search rules
 
-returns-3 : tie.Need-returns-3
-unfolding pendingBytes
-returns-3 c =
+returns_3 : tie.Need-returns-3
+unfolding pending_bytes
+returns_3 c =
     let t = c.before.before.before.before.before.args in
-    flag-there t.s.now (λ j. (c.before.before.before.before.shared-slice-known.given j).fits) t.at pendingBytes pendingForm c.before.before.before.before.before.requires _ c.before.before.before.load8.ensures _ c.before.if2.false c.commit-form.ensures
+    flag_there t.s.now (λ j. (c.before.before.before.before.shared-slice-known.given j).fits) t.at pending_bytes pending_form c.before.before.before.before.before.requires _ c.before.before.before.load8.ensures _ c.before.if2.false c.commit_form.ensures
 
-pub pending-form-spec : {M : Type 1} → statement M
-pending-form-spec =
+pub pending_form_spec : {M : Type 1} → statement M
+pending_form_spec =
     tie.close
     (tie.spec
-    load8-requires
-    add-all-zero
-    all-zero-requires
+    load8_requires
+    add_all_zero
+    all_zero_requires
     returns
-    returns-2
-    add-commit-form
-    commit-form-requires
-    returns-3)
+    returns_2
+    add_commit_form
+    commit_form_requires
+    returns_3)

@@ -1,53 +1,53 @@
 -- The three ways out are the three cases of the flag.
 use Rattle.std.proofs.Common.{rules}
-use Rattle.layout.specs.Records.{syncBytes}
-use Rattle.rules.specs.Forms.{syncForm}
-use Rattle.layout.proofs.PlaceLaws.{flag-none, flag-wrong, flag-there}
+use Rattle.layout.specs.Records.{sync_bytes}
+use Rattle.rules.specs.Forms.{sync_form}
+use Rattle.layout.proofs.PlaceLaws.{flag_none, flag_wrong, flag_there}
 use Rattle.volumebytes.proofs.sync.sync_form.Statement.{statement}
 use Rattle.volumebytes.proofs.sync.sync_form.Tie as tie
 
-load8-requires : tie.Need-load8-requires
-load8-requires c κs = search rules
+load8_requires : tie.Need-load8-requires
+load8_requires c κs = search rules
 
-add-all-zero : tie.Need-overflow-add-all-zero
-add-all-zero c = search rules
+add_all_zero : tie.Need-overflow-add-all-zero
+add_all_zero c = search rules
 
-all-zero-requires : tie.Need-all-zero-requires
-all-zero-requires c κs = search rules
+all_zero_requires : tie.Need-all-zero-requires
+all_zero_requires c κs = search rules
 
 returns : tie.Need-returns
-unfolding syncBytes
+unfolding sync_bytes
 returns c =
     let t = c.before.before.before.before.args in
-    flag-none t.s.now (λ j. (c.before.before.before.shared-slice-known.given j).fits) t.at syncBytes syncForm c.before.before.before.before.requires _ c.before.before.load8.ensures _ c.before.if1.true c.all-zero.ensures
+    flag_none t.s.now (λ j. (c.before.before.before.shared-slice-known.given j).fits) t.at sync_bytes sync_form c.before.before.before.before.requires _ c.before.before.load8.ensures _ c.before.if1.true c.all-zero.ensures
 
-returns-2 : tie.Need-returns-2
-unfolding syncBytes
-returns-2 c =
+returns_2 : tie.Need-returns-2
+unfolding sync_bytes
+returns_2 c =
     let t = c.before.before.before.before.args in
-    flag-wrong t.s.now (λ j. (c.before.before.before.shared-slice-known.given j).fits) t.at syncBytes syncForm c.before.before.before.before.requires _ c.before.before.load8.ensures c.before.if1.false c.if2.true
+    flag_wrong t.s.now (λ j. (c.before.before.before.shared-slice-known.given j).fits) t.at sync_bytes sync_form c.before.before.before.before.requires _ c.before.before.load8.ensures c.before.if1.false c.if2.true
 
-add-point-form : tie.Need-overflow-add-point-form
-add-point-form c = search rules
+add_point_form : tie.Need-overflow-add-point-form
+add_point_form c = search rules
 
-point-form-requires : tie.Need-point-form-requires
-point-form-requires c κs = search rules
+point_form_requires : tie.Need-point-form-requires
+point_form_requires c κs = search rules
 
-returns-3 : tie.Need-returns-3
-unfolding syncBytes
-returns-3 c =
+returns_3 : tie.Need-returns-3
+unfolding sync_bytes
+returns_3 c =
     let t = c.before.before.before.before.before.args in
-    flag-there t.s.now (λ j. (c.before.before.before.before.shared-slice-known.given j).fits) t.at syncBytes syncForm c.before.before.before.before.before.requires _ c.before.before.before.load8.ensures _ c.before.if2.false c.point-form.ensures
+    flag_there t.s.now (λ j. (c.before.before.before.before.shared-slice-known.given j).fits) t.at sync_bytes sync_form c.before.before.before.before.before.requires _ c.before.before.before.load8.ensures _ c.before.if2.false c.point-form.ensures
 
-pub sync-form-spec : {M : Type 1} → statement M
-sync-form-spec =
+pub sync_form_spec : {M : Type 1} → statement M
+sync_form_spec =
     tie.close
     (tie.spec
-    load8-requires
-    add-all-zero
-    all-zero-requires
+    load8_requires
+    add_all_zero
+    all_zero_requires
     returns
-    returns-2
-    add-point-form
-    point-form-requires
-    returns-3)
+    returns_2
+    add_point_form
+    point_form_requires
+    returns_3)

@@ -6,15 +6,15 @@ use Rattle.volume.proofs.snapshot.LogRange.is_zero.Tie as tie
 returns : tie.Need-returns
 returns c = rw (ne_eqb _ _ c.if1.true)
 
-returns-2 : tie.Need-returns-2
-returns-2 c = rw (eq-eqb c.before.before.before.before.before.args.self.start.0 0 (omega arith), ne_eqb c.before.before.before.before.before.args.self.end.0 0 c.if2.true)
+returns_2 : tie.Need-returns-2
+returns_2 c = rw (eq-eqb c.before.before.before.before.before.args.self.start.0 0 (omega arith), ne_eqb c.before.before.before.before.before.args.self.end.0 0 c.if2.true)
 
-same-requires : tie.Need-same-requires
-same-requires c κs = search rules
+same_requires : tie.Need-same-requires
+same_requires c κs = search rules
 
-returns-3 : tie.Need-returns-3
-returns-3 c =
+returns_3 : tie.Need-returns-3
+returns_3 c =
     rw (eq-eqb c.before.before.before.before.before.before.args.self.start.0 0 (omega arith), eq-eqb c.before.before.before.before.before.before.args.self.end.0 0 (omega arith)) c.same.ensures
 
-pub is-zero-spec : {M : Type 1} → statement M
-is-zero-spec = tie.close (tie.spec returns returns-2 same-requires returns-3)
+pub is_zero_spec : {M : Type 1} → statement M
+is_zero_spec = tie.close (tie.spec returns returns_2 same_requires returns_3)

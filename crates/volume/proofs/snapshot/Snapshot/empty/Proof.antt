@@ -4,12 +4,12 @@ use Rattle.volume.specs.Snapshots.{laid}
 use Rattle.volume.proofs.snapshot.Snapshot.empty.Statement.{statement}
 use Rattle.volume.proofs.snapshot.Snapshot.empty.Tie as tie
 
-zero-requires : tie.Need-zero-requires
-zero-requires c κs = search rules
+zero_requires : tie.Need-zero-requires
+zero_requires c κs = search rules
 
 returns : tie.Need-returns
 unfolding laid
 returns c = rw c.zero.ensures
 
-pub empty-spec : {M : Type 1} → statement M
-empty-spec = tie.close (tie.spec zero-requires returns)
+pub empty_spec : {M : Type 1} → statement M
+empty_spec = tie.close (tie.spec zero_requires returns)

@@ -2,60 +2,60 @@
 use Rattle.std.proofs.Common.{◌≡◌, sym, ap, ◌∙◌, arith, rules}
 use borrow.Author.Tests.{not-true, not-false}
 use Rattle.volume.specs.declared.snapshot.Snapshot.{Snapshot}
-use Rattle.volume.specs.Snapshots.{laid, laidAnswer, withRange, zeroCode}
-use Rattle.volume.proofs.SnapshotLaws.{new-lsns, new-order, new-done, laid_one}
+use Rattle.volume.specs.Snapshots.{laid, laid_answer, with_range, zero_code}
+use Rattle.volume.proofs.SnapshotLaws.{new_lsns, new_order, new_done, laid_one}
 use Rattle.volume.proofs.snapshot.Snapshot.new.Statement.{statement}
 use Rattle.volume.proofs.snapshot.Snapshot.new.Tie as tie
 
-has-lsns-requires : tie.Need-has-lsns-requires
-has-lsns-requires c κs = search rules
+has_lsns_requires : tie.Need-has-lsns-requires
+has_lsns_requires c κs = search rules
 
-refused-requires : tie.Need-refused-requires
-refused-requires c κs = search rules
+refused_requires : tie.Need-refused-requires
+refused_requires c κs = search rules
 
 returns : tie.Need-returns
-returns c = c.refused.ensures ∙ ap laidAnswer (new-lsns _ _ (sym c.before.before.has-lsns.ensures ∙ not-true _ c.before.if1.true))
+returns c = c.refused.ensures ∙ ap laid_answer (new_lsns _ _ (sym c.before.before.has-lsns.ensures ∙ not-true _ c.before.if1.true))
 
-is-ordered-requires : tie.Need-is-ordered-requires
-is-ordered-requires c κs = search rules
+is_ordered_requires : tie.Need-is-ordered-requires
+is_ordered_requires c κs = search rules
 
-refused-requires-2 : tie.Need-refused-requires-2
-refused-requires-2 c κs = search rules
+refused_requires_2 : tie.Need-refused-requires-2
+refused_requires_2 c κs = search rules
 
-returns-2 : tie.Need-returns-2
-returns-2 c =
+returns_2 : tie.Need-returns-2
+returns_2 c =
     c.refused2.ensures
     ∙ ap
-    laidAnswer
-    (new-order
+    laid_answer
+    (new_order
     _
     _
     (sym c.before.before.before.before.has-lsns.ensures ∙ not-false _ c.before.before.before.if1.false)
     (sym c.before.before.is-ordered.ensures ∙ not-true _ c.before.if2.true))
 
-empty-requires : tie.Need-empty-requires
-empty-requires c κs = search rules
+empty_requires : tie.Need-empty-requires
+empty_requires c κs = search rules
 
-with-range-requires : tie.Need-with-range-requires
+with_range_requires : tie.Need-with-range-requires
 unfolding laid
-with-range-requires c κs =
+with_range_requires c κs =
     let e : c.empty.result.len ≡ 0 = ap (λ (s : Snapshot). s.len) c.empty.ensures in
     omega arith
 
-answered-requires : tie.Need-answered-requires
-answered-requires c κs = search rules
+answered_requires : tie.Need-answered-requires
+answered_requires c κs = search rules
 
-returns-3 : tie.Need-returns-3
-returns-3 c =
+returns_3 : tie.Need-returns-3
+returns_3 c =
     c.answered.ensures
     ∙ ap
-    zeroCode
+    zero_code
     (c.before.with-range.ensures
-    ∙ ap (λ (s : Snapshot). withRange s c.before.before.before.before.before.before.before.args.range) c.before.before.empty.ensures
+    ∙ ap (λ (s : Snapshot). with_range s c.before.before.before.before.before.before.before.args.range) c.before.before.empty.ensures
     ∙ laid_one c.before.before.before.before.before.before.before.args.range c.before.before.before.before.before.before.before.args.count.0)
     ∙ ap
-    laidAnswer
-    (new-done
+    laid_answer
+    (new_done
     _
     _
     (sym c.before.before.before.before.before.before.has-lsns.ensures ∙ not-false _ c.before.before.before.before.before.if1.false)
@@ -65,13 +65,13 @@ pub new_spec : {M : Type 1} → statement M
 new_spec =
     tie.close
     (tie.spec
-    has-lsns-requires
-    refused-requires
+    has_lsns_requires
+    refused_requires
     returns
-    is-ordered-requires
-    refused-requires-2
-    returns-2
-    empty-requires
-    with-range-requires
-    answered-requires
-    returns-3)
+    is_ordered_requires
+    refused_requires_2
+    returns_2
+    empty_requires
+    with_range_requires
+    answered_requires
+    returns_3)
