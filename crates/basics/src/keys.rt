@@ -12,7 +12,7 @@ use crate::pageidx::PageIdx;
 use octets::Order;
 
 // The key of an index entry: a page as a commit of a log wrote it.
-#[derive(Drop)]
+#[derive(Clone, Copy)]
 pub struct PageVersion {
     pub log: LogId,
     pub pageidx: PageIdx,
@@ -20,14 +20,14 @@ pub struct PageVersion {
 }
 
 // The key of a page that is present.
-#[derive(Drop)]
+#[derive(Clone, Copy)]
 pub struct PageKey {
     pub sid: SegmentId,
     pub pageidx: PageIdx,
 }
 
 // The name of a tag: the first `len` of its bytes.
-#[derive(Drop)]
+#[derive(Clone, Copy)]
 pub struct TagName {
     pub len: usize,
     pub bytes: [u8; 32],

@@ -4,7 +4,7 @@ ghost use Rattle.std.specs.Prelude.{◌≡◌};
 use crate::id::LogId;
 use crate::lsn::Lsn;
 
-#[derive(Drop)]
+#[derive(Clone, Copy)]
 pub struct LogRef {
     pub log: LogId,
     pub lsn: Lsn,

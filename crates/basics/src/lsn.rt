@@ -3,18 +3,18 @@ ghost use Rattle.std.specs.Prelude.{◌≡◌};
 ghost use Rattle.basics.specs.Numbers.{last_lsn, next_lsn, prev_lsn, next_lsn_or_last, prev_lsn_or_first};
 ghost use Rattle.basics.specs.Says.{lsn_says, maybe_lsn_says};
 
-#[derive(Drop)]
+#[derive(Clone, Copy)]
 pub struct Lsn(pub u64);
 
 // An LSN, or the number of a refusal.
-#[derive(Drop)]
+#[derive(Clone, Copy)]
 pub enum LsnAnswer {
     Refused(u32),
     At(Lsn),
 }
 
 // An LSN or nothing, or the number of a refusal.
-#[derive(Drop)]
+#[derive(Clone, Copy)]
 pub enum MaybeLsnAnswer {
     Refused(u32),
     At(Lsn),

@@ -5,11 +5,11 @@ ghost use Rattle.basics.specs.Says.{maybe_page_says};
 
 use crate::pageidx::PageIdx;
 
-#[derive(Drop)]
+#[derive(Clone, Copy)]
 pub struct PageCount(pub u32);
 
 // A page or nothing.
-#[derive(Drop)]
+#[derive(Clone, Copy)]
 pub enum MaybePage {
     At(PageIdx),
     Nothing,

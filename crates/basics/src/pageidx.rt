@@ -3,11 +3,11 @@ ghost use Rattle.std.specs.Prelude.{◌≡◌};
 ghost use Rattle.basics.specs.Numbers.{last_page, next_page, prev_page};
 ghost use Rattle.basics.specs.Says.{page_says};
 
-#[derive(Drop)]
+#[derive(Clone, Copy)]
 pub struct PageIdx(pub u32);
 
 // A page, or the number of a refusal.
-#[derive(Drop)]
+#[derive(Clone, Copy)]
 pub enum PageAnswer {
     Refused(u32),
     At(PageIdx),

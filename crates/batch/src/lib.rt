@@ -1,4 +1,5 @@
 // Many records into one table, or a run of them out of it. A batch is a byte slice of n records of `stride` bytes, one after another.
+#![tactic(auto)]
 ghost use Rattle.std.specs.Prelude.{◌≡◌, true, ◌+◌, ◌-◌, ◌*◌, ◌≤◌, ◌<◌, ◌++◌, length, take, drop};
 ghost use Rattle.octets.specs.Bytes.{part};
 ghost use Rattle.octets.specs.Bytes as B;
@@ -7,7 +8,7 @@ ghost use Rattle.table.specs.Table.{runs, count_of, recs, laid, well_ordered, fi
 ghost use Rattle.batch.specs.Batch.{put_all, lacks, news, fresh, lifted, Merged};
 
 // What a count from the back knows of a key: how many records stand before its place, and 1 where none has the key, else 0.
-#[derive(Drop)]
+#[derive(Clone, Copy)]
 pub struct Passed {
     pub held: usize,
     pub lacking: usize,
@@ -140,7 +141,7 @@ fn lift(t: &mut [u8], stride: usize, q: usize, i: usize, d: usize, rec: &[u8])
 }
 
 // What a merge from the back has still to do: the table's first `held` records stand as they did, and `fresh` new keys are to come.
-#[derive(Drop)]
+#[derive(Clone, Copy)]
 pub struct Left {
     pub held: usize,
     pub fresh: usize,

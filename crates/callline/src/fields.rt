@@ -9,21 +9,21 @@ use crate::values::Number;
 use crate::{texts, values};
 
 // Where the last word that was read ends; or that the line is not in the form.
-#[derive(Drop)]
+#[derive(Clone, Copy)]
 pub struct Cursor {
     pub good: bool,
     pub end: usize,
 }
 
 // A number, and where its word ends.
-#[derive(Drop)]
+#[derive(Clone, Copy)]
 pub struct Field {
     pub value: u64,
     pub next: Cursor,
 }
 
 // Where the text of a value starts and ends; or that the line is not in the form.
-#[derive(Drop)]
+#[derive(Clone, Copy)]
 pub struct Place {
     pub good: bool,
     pub from: usize,

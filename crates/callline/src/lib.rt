@@ -1,4 +1,5 @@
 // The lines of a call list: a line's bytes to the call that it names and the values of its keys, or that it is not in the form (24).
+#![tactic(auto)]
 pub mod fields;
 pub mod texts;
 pub mod values;
@@ -20,7 +21,7 @@ pub const LAST_LSN: u64 = 18446744073709551615;
 pub const LINE_BYTES: usize = 256;
 
 // A call with the values of its keys: an identifier by its last byte, pages by the place of their text in the line. Or a line not in the form.
-#[derive(Drop)]
+#[derive(Clone, Copy)]
 pub enum Line {
     Malformed,
     Open {

@@ -9,14 +9,14 @@ use crate::texts;
 pub const LAST_U32: u64 = 4294967295;
 
 // A number, or a text that is not in the form.
-#[derive(Drop)]
+#[derive(Clone, Copy)]
 pub enum Number {
     Malformed,
     Is(u64),
 }
 
 // The first and the last page of a range, or a text that is not in the form.
-#[derive(Drop)]
+#[derive(Clone, Copy)]
 pub enum Pages {
     Malformed,
     From(u32, u32),

@@ -1,4 +1,5 @@
 // The pages of a call list line as a set: built by windows, range by range, and never page by page.
+#![tactic(auto)]
 ghost use Rattle.std.specs.Prelude.{◌≡◌, ◌<◌, ◌≤◌, true, ◌||◌};
 ghost use Rattle.basics.specs.Answers.{done};
 ghost use Rattle.pageset.specs.Sets.{member, normal};

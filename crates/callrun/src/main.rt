@@ -1,4 +1,5 @@
 // The call list program: reads lines on standard input and prints one line each. What a line does is proved in callstep, and what it prints in the module printed; here bytes are read, cut into lines and written.
+#![tactic(auto)]
 pub mod printed;
 
 ghost use Rattle.std.specs.Prelude.{◌≡◌, ◌+◌, ◌≤◌, length};
@@ -13,7 +14,7 @@ use libc::{STDIN_FILENO, STDOUT_FILENO};
 const OUT: usize = 8192;
 
 // Where reading stands: whether there may be more input, the bytes of a line that are kept, the lines that have ended.
-#[derive(Drop)]
+#[derive(Clone, Copy)]
 struct Reading {
     more: bool,
     kept: usize,

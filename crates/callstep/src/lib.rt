@@ -1,4 +1,5 @@
 // A call list, line by line: from a line and the tester, lent as five tables and four slots in bytes, to the line that is printed and the tester afterwards.
+#![tactic(auto)]
 pub mod calls;
 
 ghost use Rattle.std.specs.Prelude.{◌≡◌, length};
@@ -10,7 +11,7 @@ use callline::{Line, parse};
 use calltext::Head;
 
 // What a line prints: a code, and the commit that it names.
-#[derive(Drop)]
+#[derive(Clone, Copy)]
 pub struct Printed {
     pub code: u32,
     pub head: Head,

@@ -1,4 +1,5 @@
 // The lines that the call list program prints, into lent bytes.
+#![tactic(auto)]
 ghost use Rattle.std.specs.Prelude.{◌≡◌, cond, ◌+◌, ◌≤◌, ◌<◌, ltb, length, drop};
 ghost use Rattle.octets.specs.Bytes.{put};
 ghost use Rattle.calltext.specs.Output.{decimal, hex_byte, log_text, lsn_of, output_line};
@@ -8,14 +9,14 @@ ghost use Rattle.calltext.specs.Says.{head_says};
 pub const LINE_ROOM: usize = 96;
 
 // The commit that a line names: the last byte of its log, and its LSN.
-#[derive(Drop)]
+#[derive(Clone, Copy)]
 pub enum Head {
     Nothing,
     At(u8, u64),
 }
 
 // A decimal at the end of 20 bytes, from a place on.
-#[derive(Drop)]
+#[derive(Clone, Copy)]
 struct Decimal {
     from: usize,
     bytes: [u8; 20],

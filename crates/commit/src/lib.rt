@@ -1,4 +1,5 @@
 // Commits and segments by value, with builders that change one field and keep all others; and runs of a segment's bytes.
+#![tactic(auto)]
 ghost use Rattle.std.specs.Prelude.{◌≡◌};
 ghost use Rattle.basics.specs.Hashes.{zero_hash};
 ghost use Rattle.commit.specs.Says.{zero_range, no_range, found_range};
@@ -13,21 +14,21 @@ use basics::pageidx::PageIdx;
 use pageset::{PageSet, sets};
 
 // Whether what stands beside it counts. Where it is missing, zeros stand there.
-#[derive(Drop)]
+#[derive(Clone, Copy)]
 pub enum Presence {
     Missing,
     Given,
 }
 
 // A frame of a segment: its size in bytes, and its last page.
-#[derive(Drop)]
+#[derive(Clone, Copy)]
 pub struct Frame {
     pub size: u64,
     pub last: PageIdx,
 }
 
 // A segment: its identifier, its pages and its frames. The first `len` frames count; those past them are zero.
-#[derive(Drop)]
+#[derive(Clone, Copy)]
 pub struct SegmentIdx {
     pub sid: SegmentId,
     pub pages: PageSet,
@@ -36,7 +37,7 @@ pub struct SegmentIdx {
 }
 
 // A commit. Its hash and its segment may be missing; the first `listed` checkpoints count, and those past them are zero.
-#[derive(Drop)]
+#[derive(Clone, Copy)]
 pub struct Commit {
     pub log: LogId,
     pub lsn: Lsn,
@@ -50,7 +51,7 @@ pub struct Commit {
 }
 
 // A run of a segment's bytes, from start up to but not at end, and its pages.
-#[derive(Drop)]
+#[derive(Clone, Copy)]
 pub struct SegmentRange {
     pub sid: SegmentId,
     pub start: u64,
@@ -59,7 +60,7 @@ pub struct SegmentRange {
 }
 
 // A range or none under 0; or the number of a refusal. Where there is no range, zeros stand there.
-#[derive(Drop)]
+#[derive(Clone, Copy)]
 pub struct RangeAnswer {
     pub code: u32,
     pub found: Presence,

@@ -1,5 +1,6 @@
 // The calls that read commits. Each answers on every input: 20 where the lent table is not one, then 1, then 3 for a lent place of another
 // size than a record, then the record or nothing. A record goes to lent bytes, in its table form.
+#![tactic(auto)]
 ghost use Rattle.std.specs.Prelude.{◌≡◌, true, length};
 ghost use Rattle.basics.specs.Answers.{done};
 ghost use Rattle.basics.specs.Says.{maybe_lsn_says};
@@ -17,7 +18,7 @@ use basics::page_count::PageCount;
 use layout::COMMIT;
 
 // A page count or nothing, or the number of a refusal.
-#[derive(Drop)]
+#[derive(Clone, Copy)]
 pub enum MaybeCountAnswer {
     Refused(u32),
     Count(PageCount),
@@ -25,7 +26,7 @@ pub enum MaybeCountAnswer {
 }
 
 // Whether a record was found and written to the lent place, or the number of a refusal.
-#[derive(Drop)]
+#[derive(Clone, Copy)]
 pub enum FoundAnswer {
     Refused(u32),
     Found,

@@ -1,4 +1,5 @@
 // The table of commits in lent bytes: its check, where a commit stands, and single fields of a stored commit, read where they stand.
+#![tactic(auto)]
 ghost use Rattle.std.specs.Prelude.{◌≡◌, ◌+◌, ◌*◌, ◌<◌, ◌≤◌, true, length};
 ghost use Rattle.table.specs.Table.{count_of};
 ghost use Rattle.layout.specs.Tables.{commits_in, commits_ok};
@@ -14,7 +15,7 @@ use basics::id::{LogId, SegmentId};
 use layout::{COMMIT, COMMIT_KEY, log_key};
 
 // Where a commit stands in the table, or that there is none.
-#[derive(Drop)]
+#[derive(Clone, Copy)]
 pub enum Place {
     At(usize),
     Missing,

@@ -1,5 +1,6 @@
 // Volumes made from commits that are stored: from a snapshot, and from a commit of a log. A plan decides and stores nothing; then one function stores, all or nothing over four tables. Each
 // answers on every input, 20 first.
+#![tactic(auto)]
 ghost use Rattle.std.specs.Prelude.{◌≡◌, true, [], ◌∷◌, length};
 ghost use Rattle.basics.specs.Answers.{code};
 ghost use Rattle.rules.specs.Lists.{all, those, is_none};

@@ -1,4 +1,5 @@
 // What the demands say of the exported functions: each function here makes calls, and has the demand as its contract.
+#![tactic(auto)]
 pub mod saving;
 pub mod syncing;
 
@@ -13,7 +14,7 @@ use boundary::searchcall::sigatuda_search;
 use boundary::walkcall::sigatuda_walk;
 
 // What a search and a walk answered.
-#[derive(Drop)]
+#[derive(Clone, Copy)]
 pub struct Answers {
     pub found: Reply,
     pub walked: Reply,

@@ -14,7 +14,7 @@ use boundary::searchcall::sigatuda_search;
 use boundary::viewcall::sigatuda_snapshot;
 
 // What a save, a snapshot and a search answered.
-#[derive(Drop)]
+#[derive(Clone, Copy)]
 pub struct Replies {
     pub saved: Reply,
     pub taken: Reply,

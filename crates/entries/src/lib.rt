@@ -1,5 +1,6 @@
 // Checkpoints, the page index and presence: the three tables whose record is its key (docs/TABLES.md).
 // A table is checked in one pass that carries the numbers of the record before, so that each byte is loaded once.
+#![tactic(auto)]
 ghost use Rattle.std.specs.Prelude.{◌≡◌, ◌+◌, ◌*◌, ◌<◌, ◌≤◌, not, ◌&&◌, length, ◌==◌, nat_le};
 ghost use Rattle.octets.specs.Bytes.{part};
 ghost use Rattle.octets.specs.Order.{is_less};
@@ -16,7 +17,7 @@ use basics::pageidx::PageIdx;
 use layout::{CHECKPOINT, ENTRY, PRESENT};
 
 // A record as numbers: the halves of its identifier, its page and its LSN as its bytes have them, 0 where it has none.
-#[derive(Drop)]
+#[derive(Clone, Copy)]
 struct Row {
     formed: bool,
     high: u64,

@@ -1,4 +1,5 @@
 // Drives the calls on frames and ranges, each answer against plain lists, and writes how many were compared and how many differed.
+#![tactic(auto)]
 use plainset::tally;
 
 mod damaged;

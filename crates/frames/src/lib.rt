@@ -1,4 +1,5 @@
 // A segment's frames: whether they are in their domain, all of them, the frame of a page, and its bytes.
+#![tactic(auto)]
 ghost use Rattle.std.specs.Prelude.{◌≡◌, ◌+◌, ◌<◌, ◌≤◌, true, length, drop};
 ghost use Rattle.std.proofs.Math.Option.{some};
 ghost use Rattle.pageset.specs.Sets.{shown, normal};
@@ -15,7 +16,7 @@ use basics::pageidx::PageIdx;
 use pageset::{PageSet, form, sets};
 
 // Where a frame lies: from start up to but not at end, and from its first page to its last.
-#[derive(Drop)]
+#[derive(Clone, Copy)]
 pub struct Run {
     pub start: u64,
     pub end: u64,
@@ -24,14 +25,14 @@ pub struct Run {
 }
 
 // Where a page's frame lies, or none.
-#[derive(Drop)]
+#[derive(Clone, Copy)]
 pub enum Place {
     At(Run),
     Nothing,
 }
 
 // Where the bytes of a frame lie in a lent segment, or none; or the number of a refusal.
-#[derive(Drop)]
+#[derive(Clone, Copy)]
 pub enum BytesAnswer {
     Refused(u32),
     At(usize, usize),
@@ -39,7 +40,7 @@ pub enum BytesAnswer {
 }
 
 // The frames of a segment: the first `len` count, and those past them are zero. Of a refusal its number, and no frame.
-#[derive(Drop)]
+#[derive(Clone, Copy)]
 pub struct FrameList {
     pub code: u32,
     pub len: usize,

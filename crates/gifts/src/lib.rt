@@ -1,5 +1,6 @@
 // The walk of a snapshot, gift by gift: a commit gets the pages of its set, up to the page count, that no earlier commit of the path holds. A gift is made as masks beside the windows of the
 // commit's set, which stay where they stand. What the notes know of the pages that earlier commits hold is taken from it at once; only for what they do not know the earlier commits are asked.
+#![tactic(auto)]
 pub mod paths;
 
 ghost use Rattle.std.specs.Prelude.{◌≡◌, ◌+◌, ◌*◌, ◌<◌, ◌≤◌, true, not, ◌∷◌, length};
@@ -30,14 +31,14 @@ use paths::{Path, place_at};
 use setbytes::{count_read, set_read};
 
 // What a step of the walk finds: where the next commit that gets pages stands, and the number of the commit after it on the path; or none.
-#[derive(Drop)]
+#[derive(Clone, Copy)]
 pub struct Step {
     pub at: Place,
     pub next: usize,
 }
 
 // What a step finds, with the gift of the commit as a set by value.
-#[derive(Drop)]
+#[derive(Clone, Copy)]
 pub struct Found {
     pub at: Place,
     pub next: usize,

@@ -9,7 +9,7 @@ use table::Run;
 use volume::snapshot::Snapshot;
 
 // A run of places for each of at most 8 ranges; the runs past them are empty.
-#[derive(Drop)]
+#[derive(Clone, Copy)]
 pub struct Path {
     pub runs: [Run; 8],
 }

@@ -12,7 +12,7 @@ use boundary::tables::{
 };
 
 // What the checks of the six tables answered.
-#[derive(Drop)]
+#[derive(Clone, Copy)]
 pub struct Replies {
     pub volumes: Reply,
     pub tags: Reply,

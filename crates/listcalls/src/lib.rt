@@ -1,5 +1,6 @@
 // The calls that answer a list: volumes, tags, a range's stored LSNs, a snapshot's commits. Each answers on every input, 20 first and 19 last. The entries are counted
 // before the first is put, so that a list that is too short stays as found.
+#![tactic(auto)]
 ghost use Rattle.std.specs.Prelude.{◌≡◌, ◌+◌, ◌-◌, ◌*◌, ◌<◌, ◌≤◌, true, map, length};
 ghost use Rattle.octets.specs.Bytes.{put};
 ghost use Rattle.octets.specs.Flat.{flat};

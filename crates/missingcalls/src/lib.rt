@@ -1,5 +1,6 @@
 // Missing frames: those that meet a gift of the walk and whose set's first page is not present. `next_missing` yields one after another and stores nothing; the call goes over the items
 // and, of each, over the frames where they stand: once to count, and once to put.
+#![tactic(auto)]
 ghost use Rattle.std.specs.Prelude.{◌≡◌, ◌+◌, ◌-◌, ◌/◌, ◌<◌, ◌≤◌, true, ◌&&◌, length, take};
 ghost use Rattle.octets.specs.Bytes.{put};
 ghost use Rattle.octets.specs.Flat.{flat};
@@ -33,7 +34,7 @@ use segmentbytes::frames::frames_count;
 use segmentbytes::range_write;
 
 // Where a listing stands: the record whose frames are listed, its gift, the number of its next frame, and the number of the path's next commit.
-#[derive(Drop)]
+#[derive(Clone, Copy)]
 pub struct Cursor {
     pub at: Place,
     pub gift: PageSet,
@@ -42,7 +43,7 @@ pub struct Cursor {
 }
 
 // A missing frame, and where the listing then stands; or none.
-#[derive(Drop)]
+#[derive(Clone, Copy)]
 pub struct Missing {
     pub found: bool,
     pub range: SegmentRange,
@@ -50,7 +51,7 @@ pub struct Missing {
 }
 
 // A missing frame of a segment, and the number of the frame after it; or none.
-#[derive(Drop)]
+#[derive(Clone, Copy)]
 pub struct FrameStep {
     pub found: bool,
     pub range: SegmentRange,

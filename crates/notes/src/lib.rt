@@ -1,13 +1,14 @@
 // What is known of the pages that the earlier commits of a path hold, in a memory of its own size however many there are. It serves speed alone: what it does not know is asked of the commits.
 // 64 places, place s for one of the windows of number s modulo 64: its tag is that number divided by 64, its mask the pages of the window that are held. And 4,096 marks, bit by bit: a
 // window whose mark (its number modulo 4,096) is not set has no page that is held.
+#![tactic(auto)]
 ghost use Rattle.std.specs.Prelude.{◌≡◌, length};
 ghost use Rattle.notes.specs.Known.{AsNoted};
 
 use pageset::bits::has_bit;
 
 // What the notes tell of a window: the pages of it that were held before; or that they do not know.
-#[derive(Drop)]
+#[derive(Clone, Copy)]
 pub struct Told {
     pub known: bool,
     pub mask: u64,

@@ -1,4 +1,5 @@
 // Open: an asked volume that is stored is answered, else a new one is made, with spares for what was not asked. A plan decides and stores nothing. It answers on every input, 20 first.
+#![tactic(auto)]
 ghost use Rattle.std.specs.Prelude.{◌≡◌, true, ◌&&◌, ◌||◌};
 ghost use Rattle.basics.specs.Answers.{code};
 ghost use Rattle.rules.specs.Lists.{any};
@@ -24,7 +25,7 @@ use volumebytes::put_out;
 use volumes::{find_volume, put_volume, room_for_volume, volume_at, volumes_formed};
 
 // An identifier as open takes it: asked, and the spare that stands in where it was not.
-#[derive(Drop)]
+#[derive(Clone, Copy)]
 pub struct Wanted {
     pub asked: bool,
     pub id: [u8; 16],
@@ -32,7 +33,7 @@ pub struct Wanted {
 }
 
 // What open does: it refuses, answers the stored volume at a place, or makes the new one.
-#[derive(Drop)]
+#[derive(Clone, Copy)]
 pub enum Opening {
     Refused(u32),
     Stored(usize),

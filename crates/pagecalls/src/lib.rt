@@ -1,5 +1,6 @@
 // The calls on page sets. Each answers on every input, sets that are not in normal form among them: the numbers 1, 2 and 3 of all arguments
 // in turn, then 22.
+#![tactic(auto)]
 ghost use Rattle.std.specs.Prelude.{◌≡◌, false};
 ghost use Rattle.basics.specs.Answers.{done};
 ghost use Rattle.basics.specs.Says.{maybe_page_says};
@@ -12,7 +13,7 @@ use basics::pageidx::PageIdx;
 use pageset::{CutAnswer, PageSet, SetAnswer, form, sets};
 
 // The set with a page inserted, and whether the page was new; or the number of a refusal, no, and the empty set.
-#[derive(Drop)]
+#[derive(Clone, Copy)]
 pub struct InsertAnswer {
     pub code: u32,
     pub new: bool,
@@ -20,14 +21,14 @@ pub struct InsertAnswer {
 }
 
 // The number of pages, or the number of a refusal.
-#[derive(Drop)]
+#[derive(Clone, Copy)]
 pub enum CountAnswer {
     Refused(u32),
     Count(PageCount),
 }
 
 // A page or nothing, or the number of a refusal.
-#[derive(Drop)]
+#[derive(Clone, Copy)]
 pub enum PageAnswer {
     Refused(u32),
     At(PageIdx),
@@ -35,7 +36,7 @@ pub enum PageAnswer {
 }
 
 // Yes or no, or the number of a refusal.
-#[derive(Drop)]
+#[derive(Clone, Copy)]
 pub enum YesAnswer {
     Refused(u32),
     Yes,

@@ -1,12 +1,13 @@
 // The pages of a set from the last down. A walk has come to windows that are not yet begun, the first n of the set, and to what is left of one window;
 // each step yields the last page that is left, in a time that does not depend on the set.
+#![tactic(auto)]
 ghost use Rattle.std.specs.Prelude.{◌≡◌, ◌+◌, ◌-◌, ◌<◌};
 ghost use Rattle.pagesdown.specs.Down.{LastOf, under, Stepped};
 
 use pageset::Window;
 
 // The last page of a window, and the window without it.
-#[derive(Drop)]
+#[derive(Clone, Copy)]
 pub struct Last {
     pub page: u32,
     pub rest: Window,
@@ -36,7 +37,7 @@ pub fn last_place(n: usize) -> usize
 }
 
 // A step of the walk: the page that it yields, and what is left after it.
-#[derive(Drop)]
+#[derive(Clone, Copy)]
 pub struct Step {
     pub page: u32,
     pub windows: usize,

@@ -26,7 +26,7 @@ pub fn head(n: usize, i: usize, w: Window) -> Window
 }
 
 // One turn of a walk over two sets, at the lower of their next indexes: the mask of each there, and how many windows of each are done with it.
-#[derive(Drop)]
+#[derive(Clone, Copy)]
 pub struct Turn {
     pub index: u32,
     pub left: u64,

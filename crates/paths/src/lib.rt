@@ -1,5 +1,6 @@
 // The commits of a path, one at a time: the ranges in path order, LSN falling. What is left of a path is a path again, its first range lowered below the commit that was met, so that
 // it stays good while commits of other logs are stored.
+#![tactic(auto)]
 ghost use Rattle.std.specs.Prelude.{◌≡◌, ◌+◌, ◌-◌, ◌<◌, ◌≤◌, true, length};
 ghost use Rattle.rules.specs.Lists.{first};
 ghost use Rattle.rules.specs.Walk.{in_range, path_commits};
@@ -15,7 +16,7 @@ use basics::lsn::Lsn;
 use volume::snapshot::LogRange;
 
 // What is left of a path: its ranges from `at` up to `len`.
-#[derive(Drop)]
+#[derive(Clone, Copy)]
 pub struct Left {
     pub path: [LogRange; 8],
     pub at: usize,
@@ -23,7 +24,7 @@ pub struct Left {
 }
 
 // A commit of a path, by its row, and what is left of the path after it.
-#[derive(Drop)]
+#[derive(Clone, Copy)]
 pub struct Met {
     pub row: usize,
     pub left: Left,

@@ -8,7 +8,7 @@ use plainset::tally::Tally;
 use plainset::{held, naive, tally};
 
 // A run of a segment's bytes, and its set beside the list of its pages.
-#[derive(Drop)]
+#[derive(Clone, Copy)]
 pub struct Piece {
     pub sid: SegmentId,
     pub start: u64,

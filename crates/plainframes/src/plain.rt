@@ -7,7 +7,7 @@ use plainset::{naive, random};
 use std::num;
 
 // A set beside the list of its pages, and the frames as two lists: their sizes, and their last pages. The first `len` count.
-#[derive(Drop)]
+#[derive(Clone, Copy)]
 pub struct Plain {
     pub held: Held,
     pub len: usize,

@@ -6,7 +6,7 @@ use basics::pageidx::PageIdx;
 use pageset::{CutAnswer, PageSet, SetAnswer, sets};
 
 // A set, and its pages as a list.
-#[derive(Drop)]
+#[derive(Clone, Copy)]
 pub struct Held {
     pub set: PageSet,
     pub pages: [u32; 256],

@@ -3,7 +3,7 @@ use libc::STDOUT_FILENO;
 use std::num;
 
 // How many answers were compared, and how many of them differed.
-#[derive(Drop)]
+#[derive(Clone, Copy)]
 pub struct Tally {
     pub compared: u64,
     pub differing: u64,

@@ -1,5 +1,6 @@
 // The calls that end a push: success stores the pushed commit and moves the volume's sync point to it, recover finds out what became of a push. A plan decides and
 // stores nothing; then one function stores. Each answers on every input, 20 first.
+#![tactic(auto)]
 ghost use Rattle.std.specs.Prelude.{◌≡◌, ℕ, ◌+◌, ◌*◌, ◌<◌, true, ◌&&◌, ◌==◌};
 ghost use Rattle.std.proofs.Math.Option.{some};
 ghost use Rattle.octets.specs.Bytes.{part};
@@ -29,7 +30,7 @@ use volumes::{find_volume, store_volume, volume_at, volumes_formed};
 use writecalls::{logs_formed, write_room, write_stored};
 
 // What success does: it leaves all as it is and answers a number, or pushes the volume at a place.
-#[derive(Drop)]
+#[derive(Clone, Copy)]
 pub enum Plan {
     Left(u32),
     Push(usize),
@@ -37,7 +38,7 @@ pub enum Plan {
 
 // What recover does: it leaves all as it is and answers a number, drops the pending commit of the volume at a place and answers a number, or pushes that volume with
 // the commit that is stored at a place.
-#[derive(Drop)]
+#[derive(Clone, Copy)]
 pub enum Recovery {
     Left(u32),
     Drop { at: usize, number: u32 },

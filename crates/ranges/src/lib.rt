@@ -1,4 +1,5 @@
 // Runs of a segment's bytes: their size, and joining two that touch.
+#![tactic(auto)]
 ghost use Rattle.std.specs.Prelude.{◌≡◌, ◌-◌, ◌≤◌, true};
 ghost use Rattle.std.proofs.Math.Option.{some};
 ghost use Rattle.pageset.specs.Sets.{normal};

@@ -3,7 +3,7 @@ use plainset::tally;
 use plainset::tally::Tally;
 
 // A tally for each kind.
-#[derive(Drop)]
+#[derive(Clone, Copy)]
 pub struct Sums {
     pub numbers: Tally,
     pub sets: Tally,

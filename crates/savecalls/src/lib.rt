@@ -1,5 +1,6 @@
 // Save: a commit of pages on a volume's local log, all or nothing over four tables. `save_plan` decides and stores nothing, `save_stored` asks for room and stores,
 // `save` is the call. It answers on every input, 20 first.
+#![tactic(auto)]
 ghost use Rattle.std.specs.Prelude.{◌≡◌, ◌≤◌, true, false, length};
 ghost use Rattle.basics.specs.Answers.{refused as refusedWith, code};
 ghost use Rattle.pageset.specs.Sets.{shown, normal};
@@ -87,7 +88,7 @@ fn arguments_number(snapshot: &[u8], pages: &[u8], place: usize) -> u32
 // ---- the plan
 
 // The volume and the LSN that a save goes by, under 0; or the number of a refusal.
-#[derive(Drop)]
+#[derive(Clone, Copy)]
 pub struct Plan {
     pub code: u32,
     pub volume: Volume,

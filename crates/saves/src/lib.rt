@@ -1,4 +1,5 @@
 // What a save adds: its LSN, whether its segment is in use, its commit in bytes, and its pages, which become present.
+#![tactic(auto)]
 ghost use Rattle.std.specs.Prelude.{◌≡◌, ◌+◌, ◌*◌, ◌≤◌, true, false, length};
 ghost use Rattle.octets.specs.Bytes as B;
 ghost use Rattle.basics.specs.Says.{lsn_says};

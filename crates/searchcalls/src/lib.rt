@@ -1,4 +1,5 @@
 // The calls that look a page or a checkpoint up: search in a snapshot, and the highest checkpoint at or below an LSN. Each answers on every input, 20 first.
+#![tactic(auto)]
 ghost use Rattle.std.specs.Prelude.{◌≡◌, ◌≤◌, true, ◌&&◌, map, length, take};
 ghost use Rattle.basics.specs.Says.{maybe_lsn_says};
 ghost use Rattle.rules.specs.Search.{search_path};
@@ -23,7 +24,7 @@ use volume::snapshot::LogRange;
 use volume::volume::MaybeLsn;
 
 // Where a search ends: at a commit of the table, at no entry, or at an entry whose commit is not stored.
-#[derive(Drop)]
+#[derive(Clone, Copy)]
 enum Hit {
     At(usize),
     Nothing,

@@ -1,5 +1,6 @@
 // Segments and ranges of a segment in bytes (docs/TABLES.md): a segment is 594 bytes, its identifier, its page set and its frames; a range 417, its identifier,
 // its first byte, the byte after its last, and its pages. `frames` has the frames alone.
+#![tactic(auto)]
 pub mod frames;
 
 ghost use Rattle.std.specs.Prelude.{◌≡◌, ◌+◌, ◌≤◌, true, length};

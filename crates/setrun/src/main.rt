@@ -1,4 +1,5 @@
 // Drives the calls on page sets, each answer against that of a plain list of pages, and writes how many were compared and how many differed.
+#![tactic(auto)]
 use plainset::tally;
 
 mod built;

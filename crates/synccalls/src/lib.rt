@@ -1,4 +1,5 @@
 // The calls that move a volume's sync point and its pending commit by what the logs hold: sync, and prepare of a push. Each answers on every input, 20 first.
+#![tactic(auto)]
 ghost use Rattle.std.specs.Prelude.{◌≡◌, true, ◌&&◌};
 ghost use Rattle.std.proofs.Math.Option.{some};
 ghost use Rattle.basics.specs.Answers.{code};
@@ -26,7 +27,7 @@ use volume::volume::{ChangesAnswer, MaybeLsn, PendingCommit, Sync, SyncPoint, Vo
 use volumes::{find_volume, store_volume, volume_at, volumes_formed};
 
 // What sync does with a volume: it refuses, leaves it, or moves its sync point to an LSN of the remote.
-#[derive(Drop)]
+#[derive(Clone, Copy)]
 pub enum Pull {
     Refused(u32),
     Nothing,

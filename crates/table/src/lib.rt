@@ -1,12 +1,13 @@
 // One ordered table of records of one size in a lent byte slice: two bytes of count, then the records, `stride` bytes each,
 // whose first `klen` bytes are the key, in strictly rising byte order of keys. What lies past the last record is not part of the table.
+#![tactic(auto)]
 ghost use Rattle.std.specs.Prelude.{◌≡◌, true, ◌+◌, ◌*◌, ◌≤◌, ◌<◌, length, set};
 ghost use Rattle.table.specs.Records.{rises, spot, place, past, inserted, removed, put};
 ghost use Rattle.table.specs.Table.{runs, count_of, cap_of, recs, laid, well_ordered, holds, fits};
 ghost use Rattle.table.specs.Run.{RunOf};
 
 // Where a key stands: at a record, or in the gap before one.
-#[derive(Drop)]
+#[derive(Clone, Copy)]
 pub enum Spot {
     At(usize),
     Gap(usize),
@@ -197,7 +198,7 @@ pub fn past_key(t: &[u8], stride: usize, klen: usize, key: &[u8]) -> usize
 }
 
 // A run of records: from a place up to another, that one not included; none where `to` is not above `from`.
-#[derive(Drop)]
+#[derive(Clone, Copy)]
 pub struct Run {
     pub from: usize,
     pub to: usize,

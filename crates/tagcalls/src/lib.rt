@@ -1,4 +1,5 @@
 // The calls on tags: read, exists, delete and replace. Each answers on every input: 20, then 1 for a name that is not of 1 to 32 bytes.
+#![tactic(auto)]
 ghost use Rattle.std.specs.Prelude.{◌≡◌, true};
 ghost use Rattle.basics.specs.Answers.{refused, done, code};
 ghost use Rattle.pagecalls.specs.Says.{yes_says};
@@ -15,7 +16,7 @@ use table::Spot;
 use tags::{find_tag, put_tag, remove_tag, room_for_tag, tagged_at, tags_formed};
 
 // Under 0 a volume that was found, or nothing; else the number of a refusal. Where there is no volume its identifier is zeros.
-#[derive(Drop)]
+#[derive(Clone, Copy)]
 pub struct TaggedAnswer {
     pub code: u32,
     pub found: bool,

@@ -1,4 +1,5 @@
 // Tags in lent bytes: a tag's form and bytes (50 of them, docs/TABLES.md), and their table: its form, lookups, and stores, in the words of document 01's tables.
+#![tactic(auto)]
 ghost use Rattle.std.specs.Prelude.{◌≡◌, ◌+◌, ◌<◌, ◌≤◌, true, length};
 ghost use Rattle.std.proofs.Math.Option.{some, map};
 ghost use Rattle.octets.specs.Bytes.{be, part};

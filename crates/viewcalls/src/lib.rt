@@ -1,4 +1,5 @@
 // The calls on what a reader sees of a volume: its snapshot, and whether a snapshot is the latest. Each answers on every input, 20 first.
+#![tactic(auto)]
 ghost use Rattle.std.specs.Prelude.{◌≡◌, ◌≤◌, true, ◌&&◌, [], ◌∷◌, take};
 ghost use Rattle.basics.specs.Answers.{refused};
 ghost use Rattle.pagecalls.specs.Says.{yes_says};

@@ -12,7 +12,7 @@ use basics::lsn::Lsn;
 use basics::page_count::PageCount;
 
 // A log and a range of its LSNs, both ends included.
-#[derive(Drop)]
+#[derive(Clone, Copy)]
 pub struct LogRange {
     pub log: LogId,
     pub start: Lsn,
@@ -20,7 +20,7 @@ pub struct LogRange {
 }
 
 // A snapshot: the first `len` ranges of the path, and the page count. What lies past `len` is zero.
-#[derive(Drop)]
+#[derive(Clone, Copy)]
 pub struct Snapshot {
     pub len: usize,
     pub path: [LogRange; 8],
@@ -28,21 +28,21 @@ pub struct Snapshot {
 }
 
 // Document 01's number, and a snapshot: of a refusal, the empty one.
-#[derive(Drop)]
+#[derive(Clone, Copy)]
 pub struct SnapshotAnswer {
     pub code: u32,
     pub snapshot: Snapshot,
 }
 
 // The head of a path: a log and its LSN, or nothing. The log of nothing is zero.
-#[derive(Drop)]
+#[derive(Clone, Copy)]
 pub struct Head {
     pub lsn: MaybeLsn,
     pub log: LogId,
 }
 
 // What a range is tested for: that neither LSN is 0, that the start is not above the end, that all of it is zero.
-#[derive(Drop)]
+#[derive(Clone, Copy)]
 pub enum RangeTest {
     Lsns,
     Order,

@@ -12,35 +12,35 @@ use basics::id::{LogId, VolumeId};
 use basics::lsn::Lsn;
 
 // An LSN that may be missing.
-#[derive(Drop)]
+#[derive(Clone, Copy)]
 pub enum MaybeLsn {
     Missing,
     At(Lsn),
 }
 
 // The remote LSN that was synced, and the watermark: the local LSN that was pushed.
-#[derive(Drop)]
+#[derive(Clone, Copy)]
 pub struct SyncPoint {
     pub remote: Lsn,
     pub watermark: MaybeLsn,
 }
 
 // A sync point that may be missing.
-#[derive(Drop)]
+#[derive(Clone, Copy)]
 pub enum Sync {
     Missing,
     At(SyncPoint),
 }
 
 // A prepared push that may be missing: the local LSN, and the LSN of the remote commit. Its hash stands beside it.
-#[derive(Drop)]
+#[derive(Clone, Copy)]
 pub enum PendingCommit {
     Missing,
     At { local: Lsn, commit: Lsn },
 }
 
 // A volume. The hash of the pending commit is ZERO where none is pending.
-#[derive(Drop)]
+#[derive(Clone, Copy)]
 pub struct Volume {
     pub vid: VolumeId,
     pub local: LogId,
@@ -51,7 +51,7 @@ pub struct Volume {
 }
 
 // The LSNs that changed, or nothing, or the number of a refusal.
-#[derive(Drop)]
+#[derive(Clone, Copy)]
 pub enum ChangesAnswer {
     Refused(u32),
     Range { start: Lsn, end: Lsn },

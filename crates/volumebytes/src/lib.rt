@@ -1,4 +1,5 @@
 // A volume in bytes: its form, its value and its bytes at a place of a lent slice (docs/TABLES.md).
+#![tactic(auto)]
 pub mod pending;
 pub mod sync;
 

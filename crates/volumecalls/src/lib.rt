@@ -1,4 +1,5 @@
 // The calls on volumes alone: read, exists, delete, and drop of a pending commit. Each answers on every input, 20 first.
+#![tactic(auto)]
 ghost use Rattle.std.specs.Prelude.{◌≡◌};
 ghost use Rattle.basics.specs.Answers.{refused, code};
 ghost use Rattle.pagecalls.specs.Says.{yes_says};
@@ -17,7 +18,7 @@ use volume::volume::{PendingCommit, Sync, Volume};
 use volumes::{find_volume, remove_volume, store_volume, volume_at, volumes_formed};
 
 // A volume under 0, or the number of a refusal and the volume of zeros.
-#[derive(Drop)]
+#[derive(Clone, Copy)]
 pub struct VolumeAnswer {
     pub code: u32,
     pub volume: Volume,

@@ -1,4 +1,5 @@
 // The walk of a snapshot into a lent list: an item for each commit that gets pages. The items are counted before the first is put, unless the list has room for every commit of the path.
+#![tactic(auto)]
 ghost use Rattle.std.specs.Prelude.{◌≡◌, ◌+◌, ◌/◌, ◌<◌, ◌≤◌, true, length, nat_le};
 ghost use Rattle.octets.specs.Bytes.{put};
 ghost use Rattle.octets.specs.Flat.{flat};

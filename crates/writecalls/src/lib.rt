@@ -1,5 +1,6 @@
 // Writing a commit, given as its 722 bytes, to its three tables: `write_plan` decides and stores nothing, `write_fresh` stores what was planned, `write_commit` is the call.
 // Other calls that write a commit ask `write_room` and then `write_stored`.
+#![tactic(auto)]
 ghost use Rattle.std.specs.Prelude.{◌≡◌, true};
 ghost use Rattle.basics.specs.Answers.{code};
 ghost use Rattle.basics.specs.Orders.{log_lsn, log_page_lsn};
@@ -21,7 +22,7 @@ use pageset::{PageSet, sets};
 use setbytes::set_read;
 
 // What a write is to answer: its number, and under 0 how many of the commit's index entries are new.
-#[derive(Drop)]
+#[derive(Clone, Copy)]
 pub struct Plan {
     pub number: u32,
     pub fresh: usize,
