@@ -1,0 +1,7 @@
+-- The call answers the rule's number and leaves the table that the rule says; the number is put as the reply. Assumes nothing.
+use Rattle.std.proofs.Common.{ap, ◌∙◌}
+use Rattle.arguments.specs.Replies.{numbered_reply}
+use Rattle.boundary.proofs.pagecall.sigatuda_page_mark.Goals as goal
+
+pub returns : goal.returns
+returns c = record { value = c.numbered.ensures ∙ ap numbered_reply c.page_mark.ensures.value; presence_after = c.page_mark.ensures.presence_after }

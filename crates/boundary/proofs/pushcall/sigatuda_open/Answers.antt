@@ -1,0 +1,7 @@
+-- The call's number as a reply; the bytes are as the call leaves them.
+use Rattle.std.proofs.Common.{ap, ◌∙◌}
+use Rattle.arguments.specs.Replies.{numbered_reply}
+use Rattle.boundary.proofs.pushcall.sigatuda_open.Goals as goal
+
+pub returns : goal.returns
+returns c = (c.numbered.ensures ∙ ap numbered_reply c.open.ensures.value, c.open.ensures.volumes_after)

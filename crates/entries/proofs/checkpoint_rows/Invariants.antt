@@ -1,0 +1,18 @@
+-- The invariant: the record before, which stands at `at`, is in form and `last` has its numbers, and what is left of the question is asked of those from it on.
+-- The measure: how many records are left.
+use Rattle.std.proofs.Common.{◌≡◌, ◌+◌, ◌-◌, ◌*◌, ◌≤◌, true}
+use Rattle.octets.specs.Bytes.{part}
+use Rattle.entries.specs.Keys.{Checkpoints, row_form, rows_ok, row_of}
+use Rattle.entries.proofs.Pass.{later}
+use Rattle.entries.proofs.checkpoint_rows.Given as goal
+
+abbrev pub invariant-loop-i : goal.invariant-loop-i
+invariant-loop-i l =
+    (1 ≤ l.i)
+    × (l.at + 25 ≡ 2 + l.i * 25)
+    × (l.last ≡ row_of Checkpoints (part l.at 25 l.s))
+    × (l.last.formed ≡ true)
+    × (rows_ok Checkpoints l.n l.s ≡ later 25 (row_form Checkpoints) l.s (l.n - l.i) l.at)
+
+abbrev pub decreases-loop-i : goal.decreases-loop-i
+decreases-loop-i l = l.n - l.i

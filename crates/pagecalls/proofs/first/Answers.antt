@@ -1,0 +1,19 @@
+-- 3 where the set is not in normal form; else what the set answers. Assumes nothing.
+use Rattle.std.proofs.Common.{ap, ◌∙◌}
+use Rattle.basics.specs.Answers.{done}
+use Rattle.pageset.specs.Sets.{normal}
+use Rattle.pageset.specs.Rules.{first_rule}
+use Rattle.basics.proofs.AskLaws.{stopped, passed}
+use Rattle.pagecalls.proofs.CallLaws.{not_so, so}
+use Rattle.pagecalls.proofs.first.Goals as goal
+
+pub returns-then-not-is_normal : goal.returns-then-not-is_normal
+unfolding first_rule
+returns-then-not-is_normal c = let s = c.args.s in stopped _ (normal s) 3 (not_so _ (normal s) c.is_normal.ensures c.if-not-is_normal.true)
+
+pub first-requires : goal.first-requires
+first-requires c = let s = c.args.s in so _ (normal s) c.is_normal.ensures c.if-not-is_normal.false
+
+pub returns : goal.returns
+unfolding first_rule
+returns c = let s = c.args.s in c.page_or_nothing.ensures ∙ ap done c.first.ensures ∙ passed _ (normal s) 3 (so _ (normal s) c.is_normal.ensures c.if-not-is_normal.false)

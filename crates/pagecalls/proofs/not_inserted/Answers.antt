@@ -1,0 +1,7 @@
+-- The number, no, and the empty set. Assumes nothing.
+use Rattle.std.proofs.Common.{refl, ap}
+use Rattle.pageset.specs.declared.PageSet.{PageSet}
+use Rattle.pagecalls.proofs.not_inserted.Goals as goal
+
+pub returns : goal.returns
+returns c = (ap (λ (s : PageSet). record { code = c.args.code; set = s }) c.empty-set.ensures, refl)

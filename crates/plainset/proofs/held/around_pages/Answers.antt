@@ -1,0 +1,27 @@
+-- `plainset::held::around_pages` is safe and ends. Nothing has to hold from turn to turn, since the loop's test bounds the index; the measure is what is left of `list` past `i`.
+use Rattle.std.proofs.Common.{◌-◌, arith}
+use Rattle.plainset.proofs.held.around_pages.Goals as goal
+
+pub loop-i-init : goal.loop-i-init
+loop-i-init c = tt
+
+pub offset_bounds-list-i : goal.offset_bounds-list-i
+offset_bounds-list-i c = omega arith
+
+pub bounds-list-i : goal.bounds-list-i
+bounds-list-i c = omega arith
+
+pub around_page-sum-requires : goal.around_page-sum-requires
+around_page-sum-requires c = tt
+
+pub overflow_add-i : goal.overflow_add-i
+overflow_add-i c = omega arith
+
+pub loop-i-smaller : goal.loop-i-smaller
+loop-i-smaller c = omega arith
+
+pub loop-i-preserved : goal.loop-i-preserved
+loop-i-preserved c = tt
+
+pub returns : goal.returns
+returns c = tt

@@ -1,0 +1,33 @@
+-- `plainset::naive::with` is safe and ends. Nothing has to hold from turn to turn, since the loop's test bounds the index; the measure is how far `i` is below 256.
+use Rattle.std.proofs.Common.{◌-◌, arith}
+use Rattle.plainset.proofs.naive.with.Goals as goal
+
+pub loop-i-init : goal.loop-i-init
+loop-i-init c = tt
+
+pub offset_bounds-pages-i : goal.offset_bounds-pages-i
+offset_bounds-pages-i c = omega arith
+
+pub bounds-pages-i : goal.bounds-pages-i
+bounds-pages-i c = omega arith
+
+pub offset_bounds-pages-i-then-pages-i-eq0 : goal.offset_bounds-pages-i-then-pages-i-eq0
+offset_bounds-pages-i-then-pages-i-eq0 c = omega arith
+
+pub bounds-pages-i-then-pages-i-eq0 : goal.bounds-pages-i-then-pages-i-eq0
+bounds-pages-i-then-pages-i-eq0 c = omega arith
+
+pub returns-then-pages-i-eq0 : goal.returns-then-pages-i-eq0
+returns-then-pages-i-eq0 c = tt
+
+pub overflow_add-i : goal.overflow_add-i
+overflow_add-i c = omega arith
+
+pub loop-i-smaller : goal.loop-i-smaller
+loop-i-smaller c = omega arith
+
+pub loop-i-preserved : goal.loop-i-preserved
+loop-i-preserved c = tt
+
+pub returns : goal.returns
+returns c = tt

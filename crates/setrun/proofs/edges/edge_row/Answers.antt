@@ -1,0 +1,24 @@
+-- `setrun::edges::edge_row` is safe and ends. Nothing has to hold from turn to turn, since the loop's test bounds the index; the measure is how far `i` is below 20.
+use Rattle.std.proofs.Common.{◌-◌, arith}
+use Rattle.setrun.proofs.edges.edge_row.Goals as goal
+
+pub loop-i-init : goal.loop-i-init
+loop-i-init c = tt
+
+pub edge-requires : goal.edge-requires
+edge-requires c = tt
+
+pub edge_range-sum-requires : goal.edge_range-sum-requires
+edge_range-sum-requires c = tt
+
+pub overflow_add-i : goal.overflow_add-i
+overflow_add-i c = omega arith
+
+pub loop-i-smaller : goal.loop-i-smaller
+loop-i-smaller c = omega arith
+
+pub loop-i-preserved : goal.loop-i-preserved
+loop-i-preserved c = tt
+
+pub returns : goal.returns
+returns c = tt

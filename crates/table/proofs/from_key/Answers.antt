@@ -1,0 +1,21 @@
+-- `table::from_key` meets its contract: `seek_in` among all records.
+use mathlib.Core.Path.{ap, ◌∙◌}
+use mathlib.Core.List.{List}
+use Prim.Native.Nat.{ℕ}
+use native.Mathlib.Omega.{arith}
+use Rattle.table.specs.Records.{spot, place}
+use Rattle.table.proofs.Checks.{well_two, ready}
+use Rattle.table.proofs.Rows.{recs_are}
+use Rattle.table.proofs.from_key.Goals as goal
+
+pub count-requires : goal.count-requires
+count-requires c = well_two c.args.stride c.args.klen c.args.t.now c.requires.t_value
+
+pub seek_in-requires : goal.seek_in-requires
+seek_in-requires c = let r = ready c.args.stride c.args.klen c.args.t.now c.requires.stride_nonzero.0 c.requires.t_value c.count.result c.count.ensures.0 in record { klen_le_stride = (c.requires.stride_nonzero.1, c.requires.stride_nonzero.2, r.0, c.count.ensures.1); t_value = r.1 }
+
+pub returns : goal.returns
+returns c =
+    let a = c.args in
+    let e = ap (λ (l : List (List ℕ)). place (spot a.klen a.key.now l)) (recs_are a.stride c.count.result a.t.now c.count.ensures.0) in
+    (c.seek_in.ensures.0 ∙ e, omega (arith, c.seek_in.ensures.1, c.count.ensures.0))

@@ -1,0 +1,18 @@
+-- The head that is there is above the base or not, and so are the two last clauses of the rule. Assumes nothing.
+use Rattle.rules.specs.Sync.{changed}
+use Rattle.volume.proofs.ChangeLaws.{below, not_below}
+use Rattle.volume.proofs.volume.changes_above.Goals as goal
+
+pub returns-in_default : goal.returns-in_default
+unfolding changed
+returns-in_default c = cc
+
+pub returns-then-b-h : goal.returns-then-b-h
+returns-then-b-h c =
+    let h = c.head-1.given in
+    rw h.1 (below _ _ c.if-b-h.true)
+
+pub returns : goal.returns
+returns c =
+    let h = c.head-1.given in
+    rw h.1 (not_below _ _ c.if-b-h.false)

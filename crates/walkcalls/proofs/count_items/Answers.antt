@@ -1,0 +1,44 @@
+-- The items counted and those from number k on are all of them, and the notes are those of the commits before number k. The measure is the commits that are left.
+use Rattle.std.proofs.Common.{ℕ, ◌-◌, length, ap, arith, rules}
+use lib.ListN.{length-replicate}
+use Rattle.notes.proofs.NoteLaws.{known_none}
+use Rattle.gifts.specs.Paths.{places_in}
+use Rattle.gifts.specs.Held.{held_by}
+use Rattle.gifts.proofs.WalkLaws.{step_found, step_none}
+use Rattle.walkcalls.proofs.count_items.Goals as goal
+
+pub loop-n-init : goal.loop-n-init
+unfolding held_by
+loop-n-init c = (omega arith, omega arith, omega arith, (known_none, length-replicate {A = ℕ} 32 0))
+
+pub next_gift-step-requires : goal.next_gift-step-requires
+next_gift-step-requires c = ((c.requires.0, c.requires.1), (c.loop-n.invariant.3.0, c.loop-n.invariant.3.1))
+
+pub returns-in_default : goal.returns-in_default
+returns-in_default c =
+    let l = c.loop-n in
+    let g = c.next_gift-step in
+    let z = step_none c.args.commits.now (places_in c.args.path.runs) c.requires.0 c.requires.1 c.args.count.0 l.k g.result g.ensures.0 c.in_default.is in
+    omega (arith, l.invariant.0, ap length z)
+
+pub overflow_add-n : goal.overflow_add-n
+overflow_add-n c =
+    let l = c.loop-n in
+    let g = c.next_gift-step in
+    let s = step_found c.args.commits.now (places_in c.args.path.runs) c.requires.0 c.requires.1 c.args.count.0 l.k g.result g.ensures.0 c.in-At.field-0 c.in-At.is in
+    omega (arith, s.later, s.few, l.invariant.1, c.requires.1.few)
+
+pub loop-n-smaller : goal.loop-n-smaller
+loop-n-smaller c =
+    let l = c.loop-n in
+    let g = c.next_gift-step in
+    let s = step_found c.args.commits.now (places_in c.args.path.runs) c.requires.0 c.requires.1 c.args.count.0 l.k g.result g.ensures.0 c.in-At.field-0 c.in-At.is in
+    omega (arith, s.later, s.few)
+
+pub loop-n-preserved : goal.loop-n-preserved
+loop-n-preserved c =
+    let l = c.loop-n in
+    let g = c.next_gift-step in
+    let s = step_found c.args.commits.now (places_in c.args.path.runs) c.requires.0 c.requires.1 c.args.count.0 l.k g.result g.ensures.0 c.in-At.field-0 c.in-At.is in
+    let m = ap length s.items in
+    (omega (arith, l.invariant.0), omega (arith, s.later, l.invariant.1), s.few, (g.ensures.1.1, search rules))
