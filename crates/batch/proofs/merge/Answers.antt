@@ -15,14 +15,14 @@ use Rattle.batch.proofs.merge.Goals as goal
 pub count-count-requires : goal.count-count-requires
 count-count-requires c =
     let a = c.args in
-    well_two a.stride a.klen a.t.now c.requires.t_value.0
+    well_two a.stride a.klen a.t.now c.requires.t_value
 
 pub loop-j-init : goal.loop-j-init
 loop-j-init c =
     let items : List (List ℕ) = runs c.args.n c.args.stride 0 c.args.batch.now in
     let ready : Ready c.args.stride c.args.klen c.args.c (items) c.args.t.now = let a = c.args in
     let p = c.requires in
-    batch_ready a.stride a.klen a.n a.c a.batch.now a.t.now p.stride_nonzero.0 p.stride_nonzero.2 p.t_value.0 p.t_value.1.0 p.t_value.1.1.0 p.t_value.1.1.1 in
+    batch_ready a.stride a.klen a.n a.c a.batch.now a.t.now p.stride_nonzero.0 p.stride_nonzero.2 p.t_value p.batch_value p.c_value p.t_value_2 in
     let a = c.args in
     let p = c.requires in
     let y = ready in
@@ -54,7 +54,7 @@ merge_next-left-requires c =
     let items : List (List ℕ) = runs c.args.n c.args.stride 0 c.args.batch.now in
     let ready : Ready c.args.stride c.args.klen c.args.c (items) c.args.t.now = let a = c.args in
     let p = c.requires in
-    batch_ready a.stride a.klen a.n a.c a.batch.now a.t.now p.stride_nonzero.0 p.stride_nonzero.2 p.t_value.0 p.t_value.1.0 p.t_value.1.1.0 p.t_value.1.1.1 in
+    batch_ready a.stride a.klen a.n a.c a.batch.now a.t.now p.stride_nonzero.0 p.stride_nonzero.2 p.t_value p.batch_value p.c_value p.t_value_2 in
     let a = c.args in
     let p = c.requires in
     let y = ready in
@@ -69,7 +69,7 @@ loop-j-preserved c =
     let items : List (List ℕ) = runs c.args.n c.args.stride 0 c.args.batch.now in
     let ready : Ready c.args.stride c.args.klen c.args.c (items) c.args.t.now = let a = c.args in
     let p = c.requires in
-    batch_ready a.stride a.klen a.n a.c a.batch.now a.t.now p.stride_nonzero.0 p.stride_nonzero.2 p.t_value.0 p.t_value.1.0 p.t_value.1.1.0 p.t_value.1.1.1 in
+    batch_ready a.stride a.klen a.n a.c a.batch.now a.t.now p.stride_nonzero.0 p.stride_nonzero.2 p.t_value p.batch_value p.c_value p.t_value_2 in
     let a = c.args in
     let p = c.requires in
     let y = ready in
@@ -82,14 +82,14 @@ overflow_add-count c =
     let items : List (List ℕ) = runs c.args.n c.args.stride 0 c.args.batch.now in
     let ready : Ready c.args.stride c.args.klen c.args.c (items) c.args.t.now = let a = c.args in
     let p = c.requires in
-    batch_ready a.stride a.klen a.n a.c a.batch.now a.t.now p.stride_nonzero.0 p.stride_nonzero.2 p.t_value.0 p.t_value.1.0 p.t_value.1.1.0 p.t_value.1.1.1 in
+    batch_ready a.stride a.klen a.n a.c a.batch.now a.t.now p.stride_nonzero.0 p.stride_nonzero.2 p.t_value p.batch_value p.c_value p.t_value_2 in
     let a = c.args in
     omega (arith, c.count-count.ensures.0, total_small a.stride a.klen a.c (items) a.t.now (ready))
 
 pub store16-requires : goal.store16-requires
 store16-requires c =
     let a = c.args in
-    omega (arith, c.loop-j.invariant.1.size, well_two a.stride a.klen a.t.now c.requires.t_value.0)
+    omega (arith, c.loop-j.invariant.1.size, well_two a.stride a.klen a.t.now c.requires.t_value)
 
 pub shape_of-t : goal.shape_of-t
 shape_of-t c = omega (arith, c.loop-j.invariant.1.size, c.store16.auto.0)
@@ -99,7 +99,7 @@ returns c =
     let items : List (List ℕ) = runs c.args.n c.args.stride 0 c.args.batch.now in
     let ready : Ready c.args.stride c.args.klen c.args.c (items) c.args.t.now = let a = c.args in
     let p = c.requires in
-    batch_ready a.stride a.klen a.n a.c a.batch.now a.t.now p.stride_nonzero.0 p.stride_nonzero.2 p.t_value.0 p.t_value.1.0 p.t_value.1.1.0 p.t_value.1.1.1 in
+    batch_ready a.stride a.klen a.n a.c a.batch.now a.t.now p.stride_nonzero.0 p.stride_nonzero.2 p.t_value p.batch_value p.c_value p.t_value_2 in
     let a = c.args in
     let p = c.requires in
     let y = ready in

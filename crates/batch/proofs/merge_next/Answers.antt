@@ -19,13 +19,13 @@ pub lift-requires-in-Gap : goal.lift-requires-in-Gap
 lift-requires-in-Gap c =
     let a = c.args in
     let p = c.requires in
-    let z = next_gap a.stride a.klen a.held a.fresh a.rec.now a.t.now _ _ c.find_in.ensures c.in-Gap.is p.t_value.1 in
+    let z = next_gap a.stride a.klen a.held a.fresh a.rec.now a.t.now _ _ c.find_in.ensures c.in-Gap.is p.bound in
     (z.0, omega (arith, z.1), p.klen_le_stride.1, p.klen_le_stride.2, p.klen_le_stride.3)
 
 pub overflow_sub-result : goal.overflow_sub-result
 overflow_sub-result c =
     let a = c.args in
-    omega (arith, (next_gap a.stride a.klen a.held a.fresh a.rec.now a.t.now _ _ c.find_in.ensures c.in-Gap.is c.requires.t_value.1).1)
+    omega (arith, (next_gap a.stride a.klen a.held a.fresh a.rec.now a.t.now _ _ c.find_in.ensures c.in-Gap.is c.requires.bound).1)
 
 pub returns-in-At : goal.returns-in-At
 returns-in-At c =

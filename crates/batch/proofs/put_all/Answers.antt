@@ -12,7 +12,7 @@ pub loop-i-init : goal.loop-i-init
 loop-i-init c =
     let a = c.args in
     let p = c.requires in
-    (omega arith, sym (zero-mul a.stride), refl, puts_none a.stride a.klen a.n a.batch.now a.t.now p.stride_nonzero.0 p.stride_nonzero.2 p.t_value.0 p.t_value.1 (λ i. (c.type_inv.t i).fits))
+    (omega arith, sym (zero-mul a.stride), refl, puts_none a.stride a.klen a.n a.batch.now a.t.now p.stride_nonzero.0 p.stride_nonzero.2 p.t_value p.t_value_2 (λ i. (c.type_inv.t i).fits))
 
 pub overflow_add-to : goal.overflow_add-to
 overflow_add-to c =
@@ -33,8 +33,8 @@ put-requires c =
     let a = c.args in
     let p = c.requires in
     let l = c.loop-i in
-    let h = puts_hold a.stride a.klen a.n a.batch.now a.t.now p.stride_nonzero.0 p.stride_nonzero.2 p.t_value.0 p.t_value.1 l.i l.invariant.0 l.t l.invariant.3 in
-    let f = puts_fit a.stride a.klen a.n a.batch.now a.t.now p.stride_nonzero.0 p.stride_nonzero.2 p.t_value.0 p.t_value.1 l.i c.loop-i-test.true l.from l.invariant.1 l.t l.invariant.3 in
+    let h = puts_hold a.stride a.klen a.n a.batch.now a.t.now p.stride_nonzero.0 p.stride_nonzero.2 p.t_value p.t_value_2 l.i l.invariant.0 l.t l.invariant.3 in
+    let f = puts_fit a.stride a.klen a.n a.batch.now a.t.now p.stride_nonzero.0 p.stride_nonzero.2 p.t_value p.t_value_2 l.i c.loop-i-test.true l.from l.invariant.1 l.t l.invariant.3 in
     let whole = rw (item a.stride l.from a.batch.now) ((p.stride_nonzero.0, p.stride_nonzero.1, length_part l.from a.stride a.batch.now (room)), (h.well, f)) in
     record { stride_nonzero = whole.0; t_value = whole.1; t_value_2 = whole.2 }
 
@@ -53,7 +53,7 @@ loop-i-preserved c =
       omega arith,
       omega arith,
       omega (arith, c.put.auto.0),
-      puts_turn a.stride a.klen a.n a.batch.now a.t.now p.stride_nonzero.0 p.stride_nonzero.2 p.t_value.0 p.t_value.1 l.i c.loop-i-test.true l.from l.invariant.1 l.t l.invariant.3 _ e,
+      puts_turn a.stride a.klen a.n a.batch.now a.t.now p.stride_nonzero.0 p.stride_nonzero.2 p.t_value p.t_value_2 l.i c.loop-i-test.true l.from l.invariant.1 l.t l.invariant.3 _ e,
     )
 
 pub shape_of-t : goal.shape_of-t

@@ -1,11 +1,10 @@
 -- `parse_pull` meets its contract: each field is read where the one before it ends, and no word is left. Assumes nothing.
 use Rattle.std.proofs.Common.{sym, ◌∙◌}
-use borrow.Author.Tests.{not-true, not-false}
 use Rattle.callline.proofs.LineLaws.{pulled}
 use Rattle.callline.proofs.parse_pull.Goals as goal
 
 pub returns-then-not-is_over : goal.returns-then-not-is_over
-returns-then-not-is_over c = (let line = c.args.line.now in (pulled line c.args.op c.identifier-vid.result.next c.identifier-vid.result.value c.identifier-vid.ensures.result_value).1 (sym c.is_over.ensures ∙ not-true _ c.if-not-is_over.true), tt)
+returns-then-not-is_over c = (let line = c.args.line.now in (pulled line c.args.op c.identifier-vid.result.next c.identifier-vid.result.value c.identifier-vid.ensures.result_value).1 (sym c.is_over.ensures ∙ c.if-not-is_over.true), tt)
 
 pub returns : goal.returns
-returns c = record { result_value = let line = c.args.line.now in (pulled line c.args.op c.identifier-vid.result.next c.identifier-vid.result.value c.identifier-vid.ensures.result_value).0 (sym c.is_over.ensures ∙ not-false _ c.if-not-is_over.false); placed = tt }
+returns c = record { result_value = let line = c.args.line.now in (pulled line c.args.op c.identifier-vid.result.next c.identifier-vid.result.value c.identifier-vid.ensures.result_value).0 (sym c.is_over.ensures ∙ c.if-not-is_over.false); placed = tt }

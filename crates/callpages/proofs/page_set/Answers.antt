@@ -1,6 +1,5 @@
 -- `page_set` meets its contract. The invariant: the set has the pages of the ranges before a place of the text, all up to the last of them, and the ranges that are left, from that place on, rise above it. The measure: what is left of the text. Assumes nothing.
 use Rattle.std.proofs.Common.{◌≡◌, ◌-◌, ◌||◌, List, ◌∷◌, sym, ap, ◌∙◌, subst, arith, rules}
-use borrow.Author.Tests.{not-true, not-false}
 use Rattle.pageset.specs.Sets.{member}
 use Rattle.pageset.specs.Rules.{within}
 use Rattle.callline.specs.Texts.{Text, pieces_after, between}
@@ -15,13 +14,13 @@ use Rattle.callline.specs.Texts.{Text}
 use Rattle.callpages.proofs.page_set.Goals as goal
 
 pub returns-then-not-is_pages : goal.returns-then-not-is_pages
-returns-then-not-is_pages c = stray c.args.text.now (sym c.is_pages.ensures ∙ not-true _ c.if-not-is_pages.true) c.refusal.result c.refusal.ensures
+returns-then-not-is_pages c = stray c.args.text.now (sym c.is_pages.ensures ∙ c.if-not-is_pages.true) c.refusal.result c.refusal.ensures
 
 pub returns-then-is_text : goal.returns-then-is_text
 returns-then-is_text c = let t = c.args.text.now in rw c.empty-set.ensures (dash_end t (sym c.is_text.ensures ∙ c.if-is_text.true))
 
 pub loop-first-init : goal.loop-first-init
-loop-first-init c = let t = c.args.text.now in (search rules, rw c.empty-set.ensures (part_start t (sym c.is_pages.ensures ∙ not-false _ c.if-not-is_pages.false) (sym c.is_text.ensures ∙ c.if-is_text.false)))
+loop-first-init c = let t = c.args.text.now in (search rules, rw c.empty-set.ensures (part_start t (sym c.is_pages.ensures ∙ c.if-not-is_pages.false) (sym c.is_text.ensures ∙ c.if-is_text.false)))
 
 pub returns-in_default : goal.returns-in_default
 returns-in_default c = let t = c.args.text.now in let k = c.loop-first in let e = c.piece_end-end.result in let p = between k.at e t in let ps = pieces_after 44 t e in let c₁ : Part t (between k.at e t ∷ pieces_after 44 t e) k.set = subst (λ (l : List Text). Part t l k.set) (pieces 44 t k.at e k.invariant.0 c.piece_end-end.ensures.0) k.invariant.1 in absurd (no_stray c₁.low p ps c₁.rest c₁.left (sym c.range.ensures ∙ ap range_says c.in_default.is))

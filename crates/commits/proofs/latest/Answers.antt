@@ -2,7 +2,6 @@
 use Rattle.std.proofs.Common.{◌≡◌, length, arith, rules}
 use Rattle.rows.proofs.Rows.{formed_well}
 use Rattle.rows.proofs.Tables.{commits}
-use borrow.Author.Tests.{not-true, not-false}
 use Rattle.rows.proofs.Rows.{formed_two}
 use Rattle.commits.proofs.LookLaws.{latest_end, latest_other, latest_here}
 use Rattle.commits.proofs.latest.Goals as goal
@@ -23,9 +22,9 @@ returns-then-i-count c =
 pub returns-then-not-log_is : goal.returns-then-not-log_is
 returns-then-not-log_is c =
     let l : length c.args.log ≡ 16 = search rules in
-    latest_other c.args.t.now c.requires c.args.log l c.log_key-key.result c.log_key-key.ensures c.from_key-i.result c.from_key-i.ensures.0 (omega (arith, c.from_key-i.ensures.1, c.count.ensures.0, c.if-i-count.false)) c.log_is.result c.log_is.ensures (not-true _ c.if-not-log_is.true)
+    latest_other c.args.t.now c.requires c.args.log l c.log_key-key.result c.log_key-key.ensures c.from_key-i.result c.from_key-i.ensures.0 (omega (arith, c.from_key-i.ensures.1, c.count.ensures.0, c.if-i-count.false)) c.log_is.result c.log_is.ensures (c.if-not-log_is.true)
 
 pub returns : goal.returns
 returns c =
     let l : length c.args.log ≡ 16 = search rules in
-    latest_here c.args.t.now c.requires c.args.log l c.log_key-key.result c.log_key-key.ensures c.from_key-i.result c.from_key-i.ensures.0 (omega (arith, c.from_key-i.ensures.1, c.count.ensures.0, c.if-i-count.false)) c.log_is.result c.log_is.ensures (not-false _ c.if-not-log_is.false)
+    latest_here c.args.t.now c.requires c.args.log l c.log_key-key.result c.log_key-key.ensures c.from_key-i.result c.from_key-i.ensures.0 (omega (arith, c.from_key-i.ensures.1, c.count.ensures.0, c.if-i-count.false)) c.log_is.result c.log_is.ensures (c.if-not-log_is.false)

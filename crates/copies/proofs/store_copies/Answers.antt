@@ -12,7 +12,7 @@ loop-k-init c = (
   (λ j. omega (arith, c.type_inv.commits j)),
   (λ j. omega (arith, c.type_inv.checkpoints j)),
   (λ j. omega (arith, c.type_inv.index j)),
-  copying_start c.args.commits.now c.args.checkpoints.now c.args.index.now c.args.left c.args.log c.requires.commits_value (places c.args.left _ c.well_formed.1.1.1.0) c.args.n c.requires.is_left.0 c.requires.is_left.1
+  copying_start c.args.commits.now c.args.checkpoints.now c.args.index.now c.args.left c.args.log c.requires.commits_value (places c.args.left _ c.well_formed.1.1.1.0) c.args.n c.requires.is_left c.requires.left_value
       (search rules) (λ j. let f : Fits w8 (get_or c.args.log j 0) = search rules in f.fits),
 )
 
@@ -39,7 +39,7 @@ loop-k-preserved c = (
   (λ j. omega (arith, c.type_inv.commits j)),
   (λ j. omega (arith, c.type_inv.checkpoints j)),
   (λ j. omega (arith, c.type_inv.index j)),
-  copying_next c.args.log (end_commits c.args.commits.now c.args.checkpoints.now c.args.index.now c.args.left c.args.log) (end_checkpoints c.args.commits.now c.args.checkpoints.now c.args.index.now c.args.left c.args.log) (end_index c.args.commits.now c.args.checkpoints.now c.args.index.now c.args.left c.args.log) c.args.commits.now c.args.checkpoints.now c.args.index.now c.loop-k.commits c.loop-k.checkpoints c.loop-k.index c.loop-k.rest c.loop-k.k c.loop-k.invariant.6 c.next_commit-met.result c.next_commit-met.ensures _ c.copied_row-c.ensures.1 _ _ _ c.write_stored.ensures.commits_after c.write_stored.ensures.checkpoints_after.0 c.write_stored.ensures.checkpoints_after.1 _ (omega arith),
+  copying_next c.args.log (end_commits c.args.commits.now c.args.checkpoints.now c.args.index.now c.args.left c.args.log) (end_checkpoints c.args.commits.now c.args.checkpoints.now c.args.index.now c.args.left c.args.log) (end_index c.args.commits.now c.args.checkpoints.now c.args.index.now c.args.left c.args.log) c.args.commits.now c.args.checkpoints.now c.args.index.now c.loop-k.commits c.loop-k.checkpoints c.loop-k.index c.loop-k.rest c.loop-k.k c.loop-k.invariant.6 c.next_commit-met.result c.next_commit-met.ensures _ c.copied_row-c.ensures.1 _ _ _ c.write_stored.ensures.commits_after c.write_stored.ensures.checkpoints_after c.write_stored.ensures.index_after _ (omega arith),
 )
 
 pub shape_of-commits : goal.shape_of-commits

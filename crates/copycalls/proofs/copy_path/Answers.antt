@@ -30,4 +30,4 @@ pub put_out-requires : goal.put_out-requires
 put_out-requires c = c.requires.is_left.2
 
 pub returns : goal.returns
-returns c = left_made c.args.volumes.now c.args.commits.now c.args.checkpoints.now c.args.index.now c.args.out.now (made (copied (volumes_in c.args.volumes.now) (logs_in c.args.commits.now c.args.checkpoints.now c.args.index.now) (left_says c.args.left) (ids c.args.vid c.args.local c.args.remote))) _ _ _ (goes (volumes_in c.args.volumes.now) (logs_in c.args.commits.now c.args.checkpoints.now c.args.index.now) (left_says c.args.left) (ids c.args.vid c.args.local c.args.remote) (sym c.if-number-ne0.false ∙ c.copy_plan-number.ensures)).is_made _ _ _ _ _ (c.put_volume.ensures ∙ ap (λ (v : Volume). laid_over volume_bytes (store volume_key bytes v (volumes_in c.args.volumes.now)) c.args.volumes.now) c.new_volume-v.ensures.0) c.store_copies.ensures.commits_after c.store_copies.ensures.checkpoints_after.0 c.store_copies.ensures.checkpoints_after.1 (c.put_out.ensures ∙ ap (λ (v : Volume). volume_bytes.spell v) c.new_volume-v.ensures.0)
+returns c = left_made c.args.volumes.now c.args.commits.now c.args.checkpoints.now c.args.index.now c.args.out.now (made (copied (volumes_in c.args.volumes.now) (logs_in c.args.commits.now c.args.checkpoints.now c.args.index.now) (left_says c.args.left) (ids c.args.vid c.args.local c.args.remote))) _ _ _ (goes (volumes_in c.args.volumes.now) (logs_in c.args.commits.now c.args.checkpoints.now c.args.index.now) (left_says c.args.left) (ids c.args.vid c.args.local c.args.remote) (sym c.if-number-ne0.false ∙ c.copy_plan-number.ensures)).is_made _ _ _ _ _ (c.put_volume.ensures ∙ ap (λ (v : Volume). laid_over volume_bytes (store volume_key bytes v (volumes_in c.args.volumes.now)) c.args.volumes.now) c.new_volume-v.ensures.0) c.store_copies.ensures.commits_after c.store_copies.ensures.checkpoints_after c.store_copies.ensures.index_after (c.put_out.ensures ∙ ap (λ (v : Volume). volume_bytes.spell v) c.new_volume-v.ensures.0)

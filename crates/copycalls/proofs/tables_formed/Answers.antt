@@ -1,14 +1,13 @@
 -- The volumes decide where they are not formed, and else the three tables of commits do.
 use Rattle.std.proofs.Common.{sym, ◌∙◌}
-use borrow.Author.Tests.{not-true, not-false}
 use Rattle.layout.proofs.PlaceLaws.{stops, goes_on}
 use Rattle.copycalls.specs.Making.{copy_ok}
 use Rattle.copycalls.proofs.tables_formed.Goals as goal
 
 pub returns-then-not-volumes_formed : goal.returns-then-not-volumes_formed
 unfolding copy_ok
-returns-then-not-volumes_formed c = stops _ (sym c.volumes_formed.ensures ∙ not-true _ c.if-not-volumes_formed.true)
+returns-then-not-volumes_formed c = stops _ (sym c.volumes_formed.ensures ∙ c.if-not-volumes_formed.true)
 
 pub returns : goal.returns
 unfolding copy_ok
-returns c = goes_on _ _ (sym c.volumes_formed.ensures ∙ not-false _ c.if-not-volumes_formed.false) c.logs_formed.ensures
+returns c = goes_on _ _ (sym c.volumes_formed.ensures ∙ c.if-not-volumes_formed.false) c.logs_formed.ensures

@@ -1,7 +1,6 @@
 -- The invariant: the record before, which stands at `at`, is in form and `last` has its numbers, and what is left of the question is asked of those from it on.
 -- The measure: how many records are left.
 use Rattle.std.proofs.Common.{◌-◌, true, arith}
-use borrow.Author.Tests.{not-false}
 use Rattle.entries.specs.Keys.{Index}
 use Rattle.entries.proofs.Pass.{rows_none, first_not, first_yes, next_not, below_not, next_yes, rows_end}
 use Rattle.entries.proofs.entry_rows.Goals as goal
@@ -18,7 +17,7 @@ returns-then-not-last c = first_not Index c.args.s.now (λ j. (c.type_inv.s j).f
 pub loop-i-init : goal.loop-i-init
 loop-i-init c =
     let a = c.args in
-    (omega arith, omega arith, c.entry_row-last.ensures, not-false _ c.if-not-last.false, first_yes Index a.s.now (λ j. (c.type_inv.s j).fits) a.n (omega arith) c.entry_row-last.result c.entry_row-last.ensures c.if-not-last.false)
+    (omega arith, omega arith, c.entry_row-last.ensures, c.if-not-last.false, first_yes Index a.s.now (λ j. (c.type_inv.s j).fits) a.n (omega arith) c.entry_row-last.result c.entry_row-last.ensures c.if-not-last.false)
 
 pub overflow_add-next : goal.overflow_add-next
 overflow_add-next c = omega arith
@@ -51,7 +50,7 @@ loop-i-preserved c =
       omega arith,
       omega arith,
       c.entry_row-row.ensures,
-      not-false _ c.if-not-row.false,
+      c.if-not-row.false,
       next_yes Index a.s.now (λ j. (c.type_inv.s j).fits) a.n l.i l.at c.loop-i-test.true l.invariant.4 c.entry_row-row.result c.entry_row-row.ensures c.if-not-row.false l.last l.invariant.2 l.invariant.3 (omega arith) _ c.below.ensures c.if-not-below.false,
     )
 

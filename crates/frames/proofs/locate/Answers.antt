@@ -1,7 +1,6 @@
 -- The frames passed end below the page, so the walk from here on finds what the whole walk finds; the sizes that are left fit. The measure is what is
 -- left. Assumes nothing.
 use Rattle.std.proofs.Common.{◌≡◌, ◌+◌, ◌-◌, ◌≤◌, true, length, sym, refl, ap, ◌∙◌, arith}
-use borrow.Author.Tests.{not-true, not-false}
 use Rattle.basics.specs.Numbers.{last_lsn}
 use Rattle.pageset.specs.Sets.{normal}
 use Rattle.frames.specs.Places.{place_says}
@@ -15,7 +14,7 @@ contains-requires c =
     ok
 
 pub returns-then-not-contains : goal.returns-then-not-contains
-returns-then-not-contains c = (no_part c.args.s c.args.page.0 (sym c.contains.ensures ∙ not-true _ c.if-not-contains.true), tt)
+returns-then-not-contains c = (no_part c.args.s c.args.page.0 (sym c.contains.ensures ∙ c.if-not-contains.true), tt)
 
 pub before_first-below-requires : goal.before_first-below-requires
 before_first-below-requires c =
@@ -26,7 +25,7 @@ pub loop-i-init : goal.loop-i-init
 unfolding last_lsn
 loop-i-init c =
     let ok : normal c.args.s.pages ≡ true = ok_normal c.args.s c.requires in
-    let m = sym c.contains.ensures ∙ not-false _ c.if-not-contains.false in
+    let m = sym c.contains.ensures ∙ c.if-not-contains.false in
     (omega arith, omega (arith, c.before_first-below.ensures, start_least c.args.s.pages (ok) c.args.page.0 m), omega (arith, ok_sum c.args.s c.requires), refl)
 
 pub offset_bounds-fs-i : goal.offset_bounds-fs-i
@@ -49,7 +48,7 @@ returns-then-p-f c =
     let ok : normal c.args.s.pages ≡ true = ok_normal c.args.s c.requires in
     let long : c.args.s.len ≤ length c.args.s.frames = omega (arith, long_of c.args.s _ c.well_formed.0, ok_few c.args.s c.requires) in
     let d = c.loop-i in
-    let m = sym c.contains.ensures ∙ not-false _ c.if-not-contains.false in
+    let m = sym c.contains.ensures ∙ c.if-not-contains.false in
     let e = sym (run_here c.args.s (long) d.i c.args.page.0 d.start (d.below + 1) (omega arith) c.if-p-f.true) ∙ d.invariant.3 in
     (ap (place_says c.args.s) e ∙ run_part_lem c.args.s c.args.page.0 _ (ok) m c.before_first-below.ensures (omega arith), omega arith)
 
@@ -71,5 +70,5 @@ returns c =
     let ok : normal c.args.s.pages ≡ true = ok_normal c.args.s c.requires in
     let long : c.args.s.len ≤ length c.args.s.frames = omega (arith, long_of c.args.s _ c.well_formed.0, ok_few c.args.s c.requires) in
     let d = c.loop-i in
-    let m = sym c.contains.ensures ∙ not-false _ c.if-not-contains.false in
+    let m = sym c.contains.ensures ∙ c.if-not-contains.false in
     let e = sym (run_end c.args.s (long) d.i c.args.page.0 d.start (d.below + 1) (omega arith)) ∙ d.invariant.3 in record { says = ap (place_says c.args.s) e ∙ run_part_lem c.args.s c.args.page.0 _ (ok) m c.before_first-below.ensures (omega arith); placed = tt }

@@ -3,7 +3,6 @@
 use Rattle.std.specs.Prelude.{◌≡◌, ℕ, ◌+◌, ◌-◌, ◌*◌, true}
 use mathlib.Core.Path.{refl, sym, ap, ◌∙◌}
 use native.Mathlib.Omega.{arith}
-use borrow.Author.Tests.{not-false}
 use borrow.Author.Rules.{rules}
 use Rattle.table.specs.Table.{count_of}
 use Rattle.rules.specs.Write.{pages_of}
@@ -74,7 +73,7 @@ loop-j-preserved c =
     let u = pages_of (commit_at t c.in-At.i).segment in
     let kept = less_apart ws u l.masks m c.load32-lo.result c.load32-hi.result c.requires.n_in_bounds.3 (omega (arith, l.invariant.1)) (omega arith)
     (c.load32-lo.ensures ∙ sym (index_at c.args.n c.args.at t 0 c.args.at (omega arith) (omega arith)))
-    (c.load32-hi.ensures ∙ sym (index_at c.args.n c.args.at t m (c.args.at + m * 12) (omega arith) refl)) (c.apart.ensures (not-false _ c.if-not-apart.false)) in
+    (c.load32-hi.ensures ∙ sym (index_at c.args.n c.args.at t m (c.args.at + m * 12) (omega arith) refl)) (c.apart.ensures (c.if-not-apart.false)) in
     (omega arith, l.invariant.1, sym kept ∙ ap (less_masks ws u) l.invariant.2 ∙ sym (all_next ws t ps c.args.masks.now l.j c.in-At.i (sym c.place_at.ensures ∙ c.in-At.is)))
 
 pub shape_of-masks : goal.shape_of-masks

@@ -2,7 +2,6 @@
 use Rattle.std.specs.Prelude.{◌≡◌, ℕ, ◌+◌, true, false}
 use mathlib.Core.Path.{sym, ap, ◌∙◌}
 use native.Mathlib.Omega.{arith}
-use borrow.Author.Tests.{not-true, not-false}
 use lib.ListN.{length-replicate}
 use Rattle.pageset.specs.Sets.{normal_form}
 use Rattle.rules.specs.Write.{pages_of}
@@ -20,11 +19,11 @@ use Rattle.gifts.proofs.make_gift.Goals as goal
 pub returns-then-not-has_segment_at : goal.returns-then-not-has_segment_at
 returns-then-not-has_segment_at c =
     let t = c.args.commits.now in
-    made_none c.args.count.0 (before c.args.k (commits_at t (places_in c.args.path.runs))) (commit_at t c.args.i) (row_normal t c.requires.commits_value.0 c.args.i c.requires.commits_value.2) (sym c.has_segment_at.ensures ∙ not-true _ c.if-not-has_segment_at.true) c.args.left.now c.args.tags.now c.args.masks.now c.args.marks.now c.requires.known.1 c.requires.known.0
+    made_none c.args.count.0 (before c.args.k (commits_at t (places_in c.args.path.runs))) (commit_at t c.args.i) (row_normal t c.requires.commits_value.0 c.args.i c.requires.commits_value.2) (sym c.has_segment_at.ensures ∙ c.if-not-has_segment_at.true) c.args.left.now c.args.tags.now c.args.masks.now c.args.marks.now c.requires.known.1 c.requires.known.0
 
 pub sort_out-requires : goal.sort_out-requires
 sort_out-requires c = let t = c.args.commits.now in
-    let has = sym c.has_segment_at.ensures ∙ not-false _ c.if-not-has_segment_at.false in
+    let has = sym c.has_segment_at.ensures ∙ c.if-not-has_segment_at.false in
     let r = c.row-at in
     let n = c.count_read-n in
     let us = windows_at n.result (r.result + 79 + 1) t in
@@ -35,7 +34,7 @@ sort_out-requires c = let t = c.args.commits.now in
 pub returns-then-none_left : goal.returns-then-none_left
 returns-then-none_left c =
     let t = c.args.commits.now in
-    let has = sym c.has_segment_at.ensures ∙ not-false _ c.if-not-has_segment_at.false in
+    let has = sym c.has_segment_at.ensures ∙ c.if-not-has_segment_at.false in
     let r = c.row-at in
     let n = c.count_read-n in
     let us = windows_at n.result (r.result + 79 + 1) t in
@@ -46,7 +45,7 @@ returns-then-none_left c =
 
 pub ask_rest-requires : goal.ask_rest-requires
 ask_rest-requires c = let t = c.args.commits.now in
-    let has = sym c.has_segment_at.ensures ∙ not-false _ c.if-not-has_segment_at.false in
+    let has = sym c.has_segment_at.ensures ∙ c.if-not-has_segment_at.false in
     let r = c.row-at in
     let n = c.count_read-n in
     let us = windows_at n.result (r.result + 79 + 1) t in
@@ -56,7 +55,7 @@ ask_rest-requires c = let t = c.args.commits.now in
 
 pub returns : goal.returns
 returns c = let t = c.args.commits.now in
-    let has = sym c.has_segment_at.ensures ∙ not-false _ c.if-not-has_segment_at.false in
+    let has = sym c.has_segment_at.ensures ∙ c.if-not-has_segment_at.false in
     let r = c.row-at in
     let n = c.count_read-n in
     let us = windows_at n.result (r.result + 79 + 1) t in

@@ -45,13 +45,13 @@ pub overflow_add-k : goal.overflow_add-k
 overflow_add-k c = omega (arith, place_few c.loop-i.k c.in-At.i (places_in c.args.path.runs) (sym c.place_at.ensures ∙ c.in-At.is), c.requires.commits_value.1.few)
 
 pub shape_of-tags-then-some : goal.shape_of-tags-then-some
-shape_of-tags-then-some c = c.make_gift-some.ensures.left_after.1.places ∙ sym c.requires.known.0.places
+shape_of-tags-then-some c = c.make_gift-some.ensures.known_2.places ∙ sym c.requires.known.0.places
 
 pub shape_of-masks-then-some : goal.shape_of-masks-then-some
-shape_of-masks-then-some c = c.make_gift-some.ensures.left_after.1.pages ∙ sym c.requires.known.0.pages
+shape_of-masks-then-some c = c.make_gift-some.ensures.known_2.pages ∙ sym c.requires.known.0.pages
 
 pub shape_of-marks-then-some : goal.shape_of-marks-then-some
-shape_of-marks-then-some c = c.make_gift-some.ensures.left_after.1.words ∙ sym c.requires.known.0.words
+shape_of-marks-then-some c = c.make_gift-some.ensures.known_2.words ∙ sym c.requires.known.0.words
 
 pub returns-then-some : goal.returns-then-some
 returns-then-some c =
@@ -62,7 +62,7 @@ returns-then-some c =
     let p = sym c.place_at.ensures ∙ c.in-At.is in
     let m = c.make_gift-some.ensures in
     let e = l.invariant.0 ∙ step_here t ps c.args.count.0 l.k i p (not-true _ (sym m.value ∙ c.if-some.true)) in
-    (sym (ap (λ (x : Step × Pages). x.0) e), (gift_in t i _ _ (m.left_after.0 ∙ sym (ap (λ (x : Step × Pages). x.1) e)), known_next t ps l.k i p _ _ _ m.left_after.1))
+    (sym (ap (λ (x : Step × Pages). x.0) e), (gift_in t i _ _ (m.left_after ∙ sym (ap (λ (x : Step × Pages). x.1) e)), known_next t ps l.k i p _ _ _ m.known_2))
 
 pub loop-i-smaller : goal.loop-i-smaller
 loop-i-smaller c = omega (arith, place_few c.loop-i.k c.in-At.i (places_in c.args.path.runs) (sym c.place_at.ensures ∙ c.in-At.is))
@@ -75,4 +75,4 @@ loop-i-preserved c =
     let i = c.in-At.i in
     let p = sym c.place_at.ensures ∙ c.in-At.is in
     let m = c.make_gift-some.ensures in
-    (l.invariant.0 ∙ step_on t ps c.args.count.0 l.k i p (not-false _ (sym m.value ∙ c.if-some.false)), known_next t ps l.k i p _ _ _ m.left_after.1, search rules)
+    (l.invariant.0 ∙ step_on t ps c.args.count.0 l.k i p (not-false _ (sym m.value ∙ c.if-some.false)), known_next t ps l.k i p _ _ _ m.known_2, search rules)

@@ -18,7 +18,7 @@ pub count-count-requires : goal.count-count-requires
 count-count-requires c = well_two 29 29 c.args.t.now c.requires.t_value
 
 pub cardinality-n-requires : goal.cardinality-n-requires
-cardinality-n-requires c = c.requires.set_value.0
+cardinality-n-requires c = c.requires.set_value
 
 pub loop-n-init : goal.loop-n-init
 loop-n-init c =
@@ -27,23 +27,23 @@ loop-n-init c =
     let p = c.requires in
     let row = c.entry_key-row.result in
     let all = pages_left a.set.windows a.set.len zero_window in
-    let begun = entering_start a.log (long) a.lsn.0 row c.entry_key-row.ensures a.set p.set_value.0 a.fresh a.t.now p.t_value p.set_value.1.0 p.set_value.1.1 in
-    (refl, walk_start a.set p.set_value.0 _ c.cardinality-n.ensures, subst (λ (m : ℕ). Entering row a.fresh all all a.t.now m a.fresh a.t.now) (sym c.count-count.ensures.0) begun)
+    let begun = entering_start a.log (long) a.lsn.0 row c.entry_key-row.ensures a.set p.set_value a.fresh a.t.now p.t_value p.fresh_value p.t_value_2 in
+    (refl, walk_start a.set p.set_value _ c.cardinality-n.ensures, subst (λ (m : ℕ). Entering row a.fresh all all a.t.now m a.fresh a.t.now) (sym c.count-count.ensures.0) begun)
 
 pub offset_bounds-ws-last_place : goal.offset_bounds-ws-last_place
 offset_bounds-ws-last_place c =
     let l = c.loop-n in
-    omega (arith, c.last_place.ensures, walk_place c.args.set c.requires.set_value.0 l.i l.w l.n l.invariant.1)
+    omega (arith, c.last_place.ensures, walk_place c.args.set c.requires.set_value l.i l.w l.n l.invariant.1)
 
 pub bounds-ws-last_place : goal.bounds-ws-last_place
 bounds-ws-last_place c =
     let l = c.loop-n in
-    omega (arith, c.last_place.ensures, walk_place c.args.set c.requires.set_value.0 l.i l.w l.n l.invariant.1)
+    omega (arith, c.last_place.ensures, walk_place c.args.set c.requires.set_value l.i l.w l.n l.invariant.1)
 
 pub next_down-step-requires : goal.next_down-step-requires
 next_down-step-requires c =
     let l = c.loop-n in
-    step_ready c.args.set c.requires.set_value.0 l.i l.w l.n l.invariant.1 c.loop-n-test.true c.last_place.result c.last_place.ensures
+    step_ready c.args.set c.requires.set_value l.i l.w l.n l.invariant.1 c.loop-n-test.true c.last_place.result c.last_place.ensures
 
 pub merge_next-left-requires : goal.merge_next-left-requires
 merge_next-left-requires c =
@@ -51,10 +51,10 @@ merge_next-left-requires c =
     let row_of : (row : List ℕ) → row ≡ log_page_lsn_bytes.spell (c.args.log, (0, c.args.lsn.0)) → length row ≡ 29 = λ row e. ap length (e ∙ key_row c.args.log c.args.lsn.0 0) ∙ row_long c.args.log (long) c.args.lsn.0 0 in
     let ready : (row : List ℕ) → row ≡ log_page_lsn_bytes.spell (c.args.log, (0, c.args.lsn.0)) → Ready 29 29 c.args.fresh (page_rows row (pages_left c.args.set.windows c.args.set.len zero_window)) c.args.t.now = λ row e. let a = c.args in
     let p = c.requires in
-    entering_ready a.log (long) a.lsn.0 row e a.set p.set_value.0 a.fresh a.t.now p.t_value p.set_value.1.0 p.set_value.1.1 in
+    entering_ready a.log (long) a.lsn.0 row e a.set p.set_value a.fresh a.t.now p.t_value p.fresh_value p.t_value_2 in
     let stepped : let ws = c.args.set.windows in let l = c.loop-n in let r = c.next_down-step.result in (pages_left ws l.i l.w ≡ pages_left ws r.windows r.rest ++ r.page ∷ []) × Walking c.args.set r.windows r.rest (l.n - 1) = let l = c.loop-n in
     let d = c.next_down-step in
-    step_done c.args.set c.requires.set_value.0 l.i l.w l.n l.invariant.1 c.loop-n-test.true c.last_place.result c.last_place.ensures d.result.page d.result.windows d.result.rest d.ensures in
+    step_done c.args.set c.requires.set_value l.i l.w l.n l.invariant.1 c.loop-n-test.true c.last_place.result c.last_place.ensures d.result.page d.result.windows d.result.rest d.ensures in
     let a = c.args in
     let l = c.loop-n in
     let d = c.next_down-step in
@@ -75,10 +75,10 @@ loop-n-preserved c =
     let row_of : (row : List ℕ) → row ≡ log_page_lsn_bytes.spell (c.args.log, (0, c.args.lsn.0)) → length row ≡ 29 = λ row e. ap length (e ∙ key_row c.args.log c.args.lsn.0 0) ∙ row_long c.args.log (long) c.args.lsn.0 0 in
     let ready : (row : List ℕ) → row ≡ log_page_lsn_bytes.spell (c.args.log, (0, c.args.lsn.0)) → Ready 29 29 c.args.fresh (page_rows row (pages_left c.args.set.windows c.args.set.len zero_window)) c.args.t.now = λ row e. let a = c.args in
     let p = c.requires in
-    entering_ready a.log (long) a.lsn.0 row e a.set p.set_value.0 a.fresh a.t.now p.t_value p.set_value.1.0 p.set_value.1.1 in
+    entering_ready a.log (long) a.lsn.0 row e a.set p.set_value a.fresh a.t.now p.t_value p.fresh_value p.t_value_2 in
     let stepped : let ws = c.args.set.windows in let l = c.loop-n in let r = c.next_down-step.result in (pages_left ws l.i l.w ≡ pages_left ws r.windows r.rest ++ r.page ∷ []) × Walking c.args.set r.windows r.rest (l.n - 1) = let l = c.loop-n in
     let d = c.next_down-step in
-    step_done c.args.set c.requires.set_value.0 l.i l.w l.n l.invariant.1 c.loop-n-test.true c.last_place.result c.last_place.ensures d.result.page d.result.windows d.result.rest d.ensures in
+    step_done c.args.set c.requires.set_value l.i l.w l.n l.invariant.1 c.loop-n-test.true c.last_place.result c.last_place.ensures d.result.page d.result.windows d.result.rest d.ensures in
     let a = c.args in
     let l = c.loop-n in
     let d = c.next_down-step in
@@ -97,7 +97,7 @@ overflow_add-count c =
     let long : length c.args.log ≡ 16 = search rules in
     let ready : (row : List ℕ) → row ≡ log_page_lsn_bytes.spell (c.args.log, (0, c.args.lsn.0)) → Ready 29 29 c.args.fresh (page_rows row (pages_left c.args.set.windows c.args.set.len zero_window)) c.args.t.now = λ row e. let a = c.args in
     let p = c.requires in
-    entering_ready a.log (long) a.lsn.0 row e a.set p.set_value.0 a.fresh a.t.now p.t_value p.set_value.1.0 p.set_value.1.1 in
+    entering_ready a.log (long) a.lsn.0 row e a.set p.set_value a.fresh a.t.now p.t_value p.fresh_value p.t_value_2 in
     let a = c.args in
     let row = c.entry_key-row.result in
     omega (arith, c.count-count.ensures.0, total_small 29 29 a.fresh (page_rows row (pages_left a.set.windows a.set.len zero_window)) a.t.now (ready row c.entry_key-row.ensures))
@@ -115,6 +115,6 @@ returns c =
     let p = c.requires in
     let l = c.loop-n in
     let z : l.n ≡ 0 = omega arith in
-    entering_end a.log (long) a.lsn.0 c.entry_key-row.result c.entry_key-row.ensures a.set p.set_value.0 a.fresh a.t.now p.t_value p.set_value.1.0 p.set_value.1.1
-    (pages_left a.set.windows l.i l.w) l.held l.coming l.t _ l.invariant.2 (walk_end a.set p.set_value.0 l.i l.w l.n l.invariant.1 z)
+    entering_end a.log (long) a.lsn.0 c.entry_key-row.result c.entry_key-row.ensures a.set p.set_value a.fresh a.t.now p.t_value p.fresh_value p.t_value_2
+    (pages_left a.set.windows l.i l.w) l.held l.coming l.t _ l.invariant.2 (walk_end a.set p.set_value l.i l.w l.n l.invariant.1 z)
     (c.store16.ensures ∙ ap (λ (m : ℕ). B.put 0 (bytes_of 2 (m + a.fresh)) l.t) c.count-count.ensures.0)

@@ -1,6 +1,5 @@
 -- 20, then 1, 2 and 3 of the snapshot, then the number of its commits: 19 where that is more than the list has places, else they are put. Assumes nothing.
 use Rattle.std.proofs.Common.{sym, ◌∙◌, arith}
-use borrow.Author.Tests.{not-true, not-false}
 use Rattle.layout.specs.Records.{commit_bytes}
 use Rattle.layout.proofs.LentLaws.{lent_no}
 use Rattle.resultlists.proofs.EntryLaws.{slots_room}
@@ -10,21 +9,21 @@ use Rattle.listcalls.proofs.PathLaws.{commits_refused, commits_short, commits_pu
 use Rattle.listcalls.proofs.snapshot_commits.Goals as goal
 
 pub returns-then-not-commits_formed : goal.returns-then-not-commits_formed
-returns-then-not-commits_formed c = left_refused commit_bytes _ _ _ 20 (lent_no _ _ (sym c.commits_formed.ensures ∙ not-true _ c.if-not-commits_formed.true))
+returns-then-not-commits_formed c = left_refused commit_bytes _ _ _ 20 (lent_no _ _ (sym c.commits_formed.ensures ∙ c.if-not-commits_formed.true))
 
 pub returns-then-code-ne0 : goal.returns-then-code-ne0
-returns-then-code-ne0 c = commits_refused c.args.commits.now (sym c.commits_formed.ensures ∙ not-false _ c.if-not-commits_formed.false) c.args.snapshot.now c.snapshot_code-code.result c.snapshot_code-code.ensures c.args.list.now c.args.items.now c.if-code-ne0.true
+returns-then-code-ne0 c = commits_refused c.args.commits.now (sym c.commits_formed.ensures ∙ c.if-not-commits_formed.false) c.args.snapshot.now c.snapshot_code-code.result c.snapshot_code-code.ensures c.args.list.now c.args.items.now c.if-code-ne0.true
 
 pub count_commits-n-requires : goal.count_commits-n-requires
-count_commits-n-requires c = ((sym c.commits_formed.ensures ∙ not-false _ c.if-not-commits_formed.false), omega (arith, arg_few c.args.snapshot.now c.snapshot_arg-s.result c.snapshot_arg-s.ensures))
+count_commits-n-requires c = ((sym c.commits_formed.ensures ∙ c.if-not-commits_formed.false), omega (arith, arg_few c.args.snapshot.now c.snapshot_arg-s.result c.snapshot_arg-s.ensures))
 
 pub returns-then-list-n : goal.returns-then-list-n
-returns-then-list-n c = commits_short c.args.commits.now (sym c.commits_formed.ensures ∙ not-false _ c.if-not-commits_formed.false) c.args.snapshot.now c.snapshot_code-code.result c.snapshot_code-code.ensures c.args.list.now c.args.items.now c.if-code-ne0.false c.snapshot_arg-s.result c.snapshot_arg-s.ensures c.count_commits-n.result c.count_commits-n.ensures.0 c.if-list-n.true
+returns-then-list-n c = commits_short c.args.commits.now (sym c.commits_formed.ensures ∙ c.if-not-commits_formed.false) c.args.snapshot.now c.snapshot_code-code.result c.snapshot_code-code.ensures c.args.list.now c.args.items.now c.if-code-ne0.false c.snapshot_arg-s.result c.snapshot_arg-s.ensures c.count_commits-n.result c.count_commits-n.ensures.0 c.if-list-n.true
 
 pub put_commits-requires : goal.put_commits-requires
 put_commits-requires c =
     let room = slots_room 722 c.count_commits-n.result c.args.list.now c.if-list-n.false in
-    ((sym c.commits_formed.ensures ∙ not-false _ c.if-not-commits_formed.false), arg_few c.args.snapshot.now c.snapshot_arg-s.result c.snapshot_arg-s.ensures, omega (arith, c.count_commits-n.ensures.0))
+    ((sym c.commits_formed.ensures ∙ c.if-not-commits_formed.false), arg_few c.args.snapshot.now c.snapshot_arg-s.result c.snapshot_arg-s.ensures, omega (arith, c.count_commits-n.ensures.0))
 
 pub overflow_cast-items : goal.overflow_cast-items
 overflow_cast-items c =
@@ -32,4 +31,4 @@ overflow_cast-items c =
     omega (arith, c.count_commits-n.ensures.1)
 
 pub returns : goal.returns
-returns c = commits_put c.args.commits.now (sym c.commits_formed.ensures ∙ not-false _ c.if-not-commits_formed.false) c.args.snapshot.now c.snapshot_code-code.result c.snapshot_code-code.ensures c.args.list.now c.args.items.now c.if-code-ne0.false c.snapshot_arg-s.result c.snapshot_arg-s.ensures c.count_commits-n.result c.count_commits-n.ensures.0 c.if-list-n.false _ c.put_commits.ensures
+returns c = commits_put c.args.commits.now (sym c.commits_formed.ensures ∙ c.if-not-commits_formed.false) c.args.snapshot.now c.snapshot_code-code.result c.snapshot_code-code.ensures c.args.list.now c.args.items.now c.if-code-ne0.false c.snapshot_arg-s.result c.snapshot_arg-s.ensures c.count_commits-n.result c.count_commits-n.ensures.0 c.if-list-n.false _ c.put_commits.ensures

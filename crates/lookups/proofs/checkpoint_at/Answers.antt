@@ -2,7 +2,6 @@
 use borrow.Author.Rules.{rules}
 use Rattle.std.specs.Prelude.{◌≡◌, ◌^◌, ◌<◌, length}
 use native.Mathlib.Omega.{arith}
-use borrow.Author.Tests.{not-true, not-false}
 use mir.Val.{Fits}
 use mir.Syntax.{w64}
 use Rattle.table.specs.Table.{count_of}
@@ -44,7 +43,7 @@ returns-then-not-at_or_below c =
     let small : c.args.lsn.0 < 256 ^ 8 = let f : Fits w64 c.args.lsn.0 = search rules in f.fits in
     let l : c.from_key-i.result < count_of c.args.t.now = omega (arith, c.from_key-i.ensures.1, c.count.ensures.0, c.if-i-count.false) in
     found_not (λ (k : Checkpoint). k.lsn) (at_or_below c.args.log c.args.lsn.0) _ _ (checkpoint_place c.args.t.now c.requires c.args.log c.args.lsn.0 (long) (small) _ c.log_key-key.ensures c.from_key-i.result c.from_key-i.ensures.0) _
-    (row_nth checkpoints c.args.t.now c.from_key-i.result l) _ c.at_or_below.ensures (not-true _ c.if-not-at_or_below.true)
+    (row_nth checkpoints c.args.t.now c.from_key-i.result l) _ c.at_or_below.ensures (c.if-not-at_or_below.true)
 
 pub checkpoint_lsn-requires : goal.checkpoint_lsn-requires
 checkpoint_lsn-requires c = row_in checkpoints c.args.t.now c.requires c.from_key-i.result (omega (arith, c.from_key-i.ensures.1, c.count.ensures.0, c.if-i-count.false))
@@ -55,4 +54,4 @@ returns c =
     let small : c.args.lsn.0 < 256 ^ 8 = let f : Fits w64 c.args.lsn.0 = search rules in f.fits in
     let l : c.from_key-i.result < count_of c.args.t.now = omega (arith, c.from_key-i.ensures.1, c.count.ensures.0, c.if-i-count.false) in
     found_it (λ (k : Checkpoint). k.lsn) (at_or_below c.args.log c.args.lsn.0) _ _ (checkpoint_place c.args.t.now c.requires c.args.log c.args.lsn.0 (long) (small) _ c.log_key-key.ensures c.from_key-i.result c.from_key-i.ensures.0) _
-    (row_nth checkpoints c.args.t.now c.from_key-i.result l) _ c.at_or_below.ensures (not-false _ c.if-not-at_or_below.false) _ c.checkpoint_lsn.ensures
+    (row_nth checkpoints c.args.t.now c.from_key-i.result l) _ c.at_or_below.ensures (c.if-not-at_or_below.false) _ c.checkpoint_lsn.ensures

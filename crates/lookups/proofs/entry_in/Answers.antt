@@ -2,7 +2,6 @@
 use borrow.Author.Rules.{rules}
 use Rattle.std.specs.Prelude.{◌≡◌, ◌^◌, ◌<◌, length}
 use native.Mathlib.Omega.{arith}
-use borrow.Author.Tests.{not-true, not-false}
 use mir.Val.{Fits}
 use mir.Syntax.{w32, w64}
 use Rattle.table.specs.Table.{count_of}
@@ -47,7 +46,7 @@ returns-then-not-in_range c =
     let page_small : c.args.page.0 < 256 ^ 4 = let f : Fits w32 c.args.page.0 = search rules in f.fits in
     let l : c.from_key-i.result < count_of c.args.t.now = omega (arith, c.from_key-i.ensures.1, c.count.ensures.0, c.if-i-count.false) in
     found_not (λ (k : Entry). k.lsn) (entry_in (range_says c.args.range) c.args.page.0) _ _ (entry_place c.args.t.now c.requires (range_says c.args.range) c.args.page.0 (long) (page_small) (small) _ c.entry_key-key.ensures c.from_key-i.result c.from_key-i.ensures.0) _
-    (row_nth index c.args.t.now c.from_key-i.result l) _ c.in_range.ensures (not-true _ c.if-not-in_range.true)
+    (row_nth index c.args.t.now c.from_key-i.result l) _ c.in_range.ensures (c.if-not-in_range.true)
 
 pub entry_lsn-requires : goal.entry_lsn-requires
 entry_lsn-requires c = row_in index c.args.t.now c.requires c.from_key-i.result (omega (arith, c.from_key-i.ensures.1, c.count.ensures.0, c.if-i-count.false))
@@ -59,4 +58,4 @@ returns c =
     let page_small : c.args.page.0 < 256 ^ 4 = let f : Fits w32 c.args.page.0 = search rules in f.fits in
     let l : c.from_key-i.result < count_of c.args.t.now = omega (arith, c.from_key-i.ensures.1, c.count.ensures.0, c.if-i-count.false) in
     found_it (λ (k : Entry). k.lsn) (entry_in (range_says c.args.range) c.args.page.0) _ _ (entry_place c.args.t.now c.requires (range_says c.args.range) c.args.page.0 (long) (page_small) (small) _ c.entry_key-key.ensures c.from_key-i.result c.from_key-i.ensures.0) _
-    (row_nth index c.args.t.now c.from_key-i.result l) _ c.in_range.ensures (not-false _ c.if-not-in_range.false) _ c.entry_lsn.ensures
+    (row_nth index c.args.t.now c.from_key-i.result l) _ c.in_range.ensures (c.if-not-in_range.false) _ c.entry_lsn.ensures

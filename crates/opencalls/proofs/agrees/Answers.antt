@@ -1,6 +1,5 @@
 -- By whether a remote was asked, and then by the two identifiers.
 use Rattle.std.proofs.Common.{Bool, sym, ap, ◌∙◌}
-use borrow.Author.Tests.{not-true, not-false}
 use Rattle.rules.proofs.Facts.{id_is}
 use Rattle.rules.specs.Open.{agrees_on}
 use Rattle.volume.specs.Volumes.{volume_says}
@@ -8,7 +7,7 @@ use Rattle.opencalls.specs.Opens.{asked_by}
 use Rattle.opencalls.proofs.agrees.Goals as goal
 
 pub returns-then-not-remote : goal.returns-then-not-remote
-returns-then-not-remote c = sym (ap (λ (b : Bool). agrees_on (asked_by b c.args.remote.id) (volume_says c.args.v)) (not-true c.args.remote.asked c.if-not-remote.true))
+returns-then-not-remote c = sym (ap (λ (b : Bool). agrees_on (asked_by b c.args.remote.id) (volume_says c.args.v)) (c.if-not-remote.true))
 
 pub returns : goal.returns
-returns c = c.same_id.ensures ∙ id_is _ _ ∙ sym (ap (λ (b : Bool). agrees_on (asked_by b c.args.remote.id) (volume_says c.args.v)) (not-false c.args.remote.asked c.if-not-remote.false))
+returns c = c.same_id.ensures ∙ id_is _ _ ∙ sym (ap (λ (b : Bool). agrees_on (asked_by b c.args.remote.id) (volume_says c.args.v)) (c.if-not-remote.false))

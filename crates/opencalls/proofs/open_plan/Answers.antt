@@ -1,6 +1,5 @@
 -- By the asked volume where it is stored, else by the new one.
 use Rattle.std.proofs.Common.{sym, ◌∙◌}
-use borrow.Author.Tests.{not-true, not-false}
 use Rattle.rules.specs.Open.{asked_volume}
 use Rattle.layout.specs.Tables.{volumes_in, commits_in}
 use Rattle.opencalls.specs.Opens.{asked_says}
@@ -21,7 +20,7 @@ pub volume_at-v-requires : goal.volume_at-v-requires
 volume_at-v-requires c = (c.requires.0, c.asked_spot.ensures.inside _ c.in-At.is)
 
 pub returns-then-not-agrees : goal.returns-then-not-agrees
-returns-then-not-agrees c = other_remote c.args.volumes.now (commits_in c.args.commits.now) (asked c.args.vid c.args.local c.args.remote) (spares c.args.vid c.args.local c.args.remote) (asked_volume (volumes_in c.args.volumes.now) (asked_says c.args.vid)) c.asked_spot.result c.asked_spot.ensures _ c.in-At.is _ c.volume_at-v.ensures (sym c.agrees.ensures ∙ not-true _ c.if-not-agrees.true)
+returns-then-not-agrees c = other_remote c.args.volumes.now (commits_in c.args.commits.now) (asked c.args.vid c.args.local c.args.remote) (spares c.args.vid c.args.local c.args.remote) (asked_volume (volumes_in c.args.volumes.now) (asked_says c.args.vid)) c.asked_spot.result c.asked_spot.ensures _ c.in-At.is _ c.volume_at-v.ensures (sym c.agrees.ensures ∙ c.if-not-agrees.true)
 
 pub returns : goal.returns
-returns c = stored_goes c.args.volumes.now (commits_in c.args.commits.now) (asked c.args.vid c.args.local c.args.remote) (spares c.args.vid c.args.local c.args.remote) (asked_volume (volumes_in c.args.volumes.now) (asked_says c.args.vid)) c.asked_spot.result c.asked_spot.ensures _ c.in-At.is _ c.volume_at-v.ensures (sym c.agrees.ensures ∙ not-false _ c.if-not-agrees.false)
+returns c = stored_goes c.args.volumes.now (commits_in c.args.commits.now) (asked c.args.vid c.args.local c.args.remote) (spares c.args.vid c.args.local c.args.remote) (asked_volume (volumes_in c.args.volumes.now) (asked_says c.args.vid)) c.asked_spot.result c.asked_spot.ensures _ c.in-At.is _ c.volume_at-v.ensures (sym c.agrees.ensures ∙ c.if-not-agrees.false)

@@ -1,20 +1,19 @@
 -- 20, or what the plan says: a number with all as found, or the push, which is stored.
 use Rattle.std.proofs.Common.{sym, ◌∙◌}
-use borrow.Author.Tests.{not-true, not-false}
 use Rattle.pushcalls.proofs.Bytes.{success_20, success_left, success_ready, success_stored}
 use Rattle.pushcalls.proofs.success.Goals as goal
 
 pub returns-then-not-push_formed : goal.returns-then-not-push_formed
-returns-then-not-push_formed c = success_20 c.args.volumes.now c.args.commits.now c.args.checkpoints.now c.args.index.now c.args.vid c.args.c.now (sym c.push_formed.ensures ∙ not-true _ c.if-not-push_formed.true)
+returns-then-not-push_formed c = success_20 c.args.volumes.now c.args.commits.now c.args.checkpoints.now c.args.index.now c.args.vid c.args.c.now (sym c.push_formed.ensures ∙ c.if-not-push_formed.true)
 
 pub success_plan-requires : goal.success_plan-requires
-success_plan-requires c = (sym c.push_formed.ensures ∙ not-false _ c.if-not-push_formed.false)
+success_plan-requires c = (sym c.push_formed.ensures ∙ c.if-not-push_formed.false)
 
 pub push_stored-requires : goal.push_stored-requires
 push_stored-requires c = success_ready c.args.volumes.now c.args.commits.now c.args.checkpoints.now c.args.index.now c.args.vid c.args.c.now c.success_plan.result c.success_plan.ensures _ c.in-Push.is
 
 pub returns-in-Left : goal.returns-in-Left
-returns-in-Left c = success_left c.args.volumes.now c.args.commits.now c.args.checkpoints.now c.args.index.now c.args.vid c.args.c.now c.success_plan.result c.success_plan.ensures (sym c.push_formed.ensures ∙ not-false _ c.if-not-push_formed.false) _ c.in-Left.is
+returns-in-Left c = success_left c.args.volumes.now c.args.commits.now c.args.checkpoints.now c.args.index.now c.args.vid c.args.c.now c.success_plan.result c.success_plan.ensures (sym c.push_formed.ensures ∙ c.if-not-push_formed.false) _ c.in-Left.is
 
 pub returns-in-Push : goal.returns-in-Push
-returns-in-Push c = success_stored c.args.volumes.now c.args.commits.now c.args.checkpoints.now c.args.index.now c.args.vid c.args.c.now c.success_plan.result c.success_plan.ensures _ c.in-Push.is (sym c.push_formed.ensures ∙ not-false _ c.if-not-push_formed.false) _ _ _ _ c.push_stored.ensures.pushed_at c.push_stored.ensures.commits_after
+returns-in-Push c = success_stored c.args.volumes.now c.args.commits.now c.args.checkpoints.now c.args.index.now c.args.vid c.args.c.now c.success_plan.result c.success_plan.ensures _ c.in-Push.is (sym c.push_formed.ensures ∙ c.if-not-push_formed.false) _ _ _ _ c.push_stored.ensures.pushed_at c.push_stored.ensures.commits_after

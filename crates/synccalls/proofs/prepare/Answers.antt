@@ -1,7 +1,6 @@
 -- Each refusal of the rule in its turn; else the volume with the pending commit, in its place.
 use Rattle.std.proofs.Common.{◌≡◌, ℕ, true, ◌&&◌, get_or, sym, ap, ◌∙◌, w8, w64, Fits, rules}
 use mathlib.Core.Option.{Option}
-use borrow.Author.Tests.{not-true, not-false}
 use Rattle.basics.specs.Answers.{done}
 use Rattle.basics.specs.Numbers.{counts}
 use Rattle.basics.specs.Orders.{bytes}
@@ -22,49 +21,49 @@ use Rattle.synccalls.proofs.Ends.{prepare_zero, prepare_nowhere, prepare_pending
 use Rattle.synccalls.proofs.prepare.Goals as goal
 
 pub returns-then-not-volumes_formed : goal.returns-then-not-volumes_formed
-returns-then-not-volumes_formed c = unchanged volume_bytes c.args.volumes.now _ 20 (no_volumes c.args.volumes.now c.args.commits.now _ (sym c.volumes_formed.ensures ∙ not-true _ c.if-not-volumes_formed.true))
+returns-then-not-volumes_formed c = unchanged volume_bytes c.args.volumes.now _ 20 (no_volumes c.args.volumes.now c.args.commits.now _ (sym c.volumes_formed.ensures ∙ c.if-not-volumes_formed.true))
 
 pub returns-then-not-commits_formed : goal.returns-then-not-commits_formed
-returns-then-not-commits_formed c = unchanged volume_bytes c.args.volumes.now _ 20 (no_commits c.args.volumes.now c.args.commits.now _ (sym c.commits_formed.ensures ∙ not-true _ c.if-not-commits_formed.true))
+returns-then-not-commits_formed c = unchanged volume_bytes c.args.volumes.now _ 20 (no_commits c.args.volumes.now c.args.commits.now _ (sym c.commits_formed.ensures ∙ c.if-not-commits_formed.true))
 
 pub returns-then-not-both_count : goal.returns-then-not-both_count
 returns-then-not-both_count c =
     let asked : Pending = record { local = c.args.local.0; commit = c.args.commit.0; hash = c.args.hash } in
-    unchanged volume_bytes c.args.volumes.now _ 1 (prepare_zero c.args.volumes.now c.args.commits.now c.args.vid (asked) (sym c.volumes_formed.ensures ∙ not-false _ c.if-not-volumes_formed.false) (sym c.commits_formed.ensures ∙ not-false _ c.if-not-commits_formed.false) (sym c.both_count.ensures ∙ not-true _ c.if-not-both_count.true))
+    unchanged volume_bytes c.args.volumes.now _ 1 (prepare_zero c.args.volumes.now c.args.commits.now c.args.vid (asked) (sym c.volumes_formed.ensures ∙ c.if-not-volumes_formed.false) (sym c.commits_formed.ensures ∙ c.if-not-commits_formed.false) (sym c.both_count.ensures ∙ c.if-not-both_count.true))
 
 pub find_volume-requires : goal.find_volume-requires
-find_volume-requires c = (sym c.volumes_formed.ensures ∙ not-false _ c.if-not-volumes_formed.false)
+find_volume-requires c = (sym c.volumes_formed.ensures ∙ c.if-not-volumes_formed.false)
 
 pub returns-in_default : goal.returns-in_default
 returns-in_default c =
     let asked : Pending = record { local = c.args.local.0; commit = c.args.commit.0; hash = c.args.hash } in
-    unchanged volume_bytes c.args.volumes.now _ 4 (prepare_nowhere c.args.volumes.now c.args.commits.now c.args.vid (asked) (sym c.volumes_formed.ensures ∙ not-false _ c.if-not-volumes_formed.false) (sym c.commits_formed.ensures ∙ not-false _ c.if-not-commits_formed.false) (sym c.both_count.ensures ∙ not-false _ c.if-not-both_count.false) (nowhere c.args.volumes.now c.args.vid (sym c.volumes_formed.ensures ∙ not-false _ c.if-not-volumes_formed.false) _ _ c.find_volume.ensures.says c.in_default.is))
+    unchanged volume_bytes c.args.volumes.now _ 4 (prepare_nowhere c.args.volumes.now c.args.commits.now c.args.vid (asked) (sym c.volumes_formed.ensures ∙ c.if-not-volumes_formed.false) (sym c.commits_formed.ensures ∙ c.if-not-commits_formed.false) (sym c.both_count.ensures ∙ c.if-not-both_count.false) (nowhere c.args.volumes.now c.args.vid (sym c.volumes_formed.ensures ∙ c.if-not-volumes_formed.false) _ _ c.find_volume.ensures.says c.in_default.is))
 
 pub volume_at-v-requires : goal.volume_at-v-requires
-volume_at-v-requires c = ((sym c.volumes_formed.ensures ∙ not-false _ c.if-not-volumes_formed.false), at_in 117 17 c.args.volumes.now _ _ _ c.find_volume.ensures.place c.in-At.is)
+volume_at-v-requires c = ((sym c.volumes_formed.ensures ∙ c.if-not-volumes_formed.false), at_in 117 17 c.args.volumes.now _ _ _ c.find_volume.ensures.place c.in-At.is)
 
 pub returns-then-not-none_pending : goal.returns-then-not-none_pending
 returns-then-not-none_pending c =
     let asked : Pending = record { local = c.args.local.0; commit = c.args.commit.0; hash = c.args.hash } in
-    unchanged volume_bytes c.args.volumes.now _ 9 (prepare_pending c.args.volumes.now c.args.commits.now c.args.vid (asked) (sym c.volumes_formed.ensures ∙ not-false _ c.if-not-volumes_formed.false) (sym c.commits_formed.ensures ∙ not-false _ c.if-not-commits_formed.false) (sym c.both_count.ensures ∙ not-false _ c.if-not-both_count.false) (volume_says c.volume_at-v.result) (found_here c.args.volumes.now c.args.vid (sym c.volumes_formed.ensures ∙ not-false _ c.if-not-volumes_formed.false) _ _ c.find_volume.ensures.says c.in-At.is c.volume_at-v.result c.volume_at-v.ensures) (sym c.none_pending.ensures ∙ not-true _ c.if-not-none_pending.true))
+    unchanged volume_bytes c.args.volumes.now _ 9 (prepare_pending c.args.volumes.now c.args.commits.now c.args.vid (asked) (sym c.volumes_formed.ensures ∙ c.if-not-volumes_formed.false) (sym c.commits_formed.ensures ∙ c.if-not-commits_formed.false) (sym c.both_count.ensures ∙ c.if-not-both_count.false) (volume_says c.volume_at-v.result) (found_here c.args.volumes.now c.args.vid (sym c.volumes_formed.ensures ∙ c.if-not-volumes_formed.false) _ _ c.find_volume.ensures.says c.in-At.is c.volume_at-v.result c.volume_at-v.ensures) (sym c.none_pending.ensures ∙ c.if-not-none_pending.true))
 
 pub returns-then-not-is_below : goal.returns-then-not-is_below
 returns-then-not-is_below c =
     let asked : Pending = record { local = c.args.local.0; commit = c.args.commit.0; hash = c.args.hash } in
-    unchanged volume_bytes c.args.volumes.now _ 11 (prepare_pushed c.args.volumes.now c.args.commits.now c.args.vid (asked) (sym c.volumes_formed.ensures ∙ not-false _ c.if-not-volumes_formed.false) (sym c.commits_formed.ensures ∙ not-false _ c.if-not-commits_formed.false) (sym c.both_count.ensures ∙ not-false _ c.if-not-both_count.false) (volume_says c.volume_at-v.result) (found_here c.args.volumes.now c.args.vid (sym c.volumes_formed.ensures ∙ not-false _ c.if-not-volumes_formed.false) _ _ c.find_volume.ensures.says c.in-At.is c.volume_at-v.result c.volume_at-v.ensures) (sym c.none_pending.ensures ∙ not-false _ c.if-not-none_pending.false) (ap (λ (m : Option ℕ). below m c.args.local.0) (sym c.watermark_of.ensures) ∙ sym c.is_below.ensures ∙ not-true _ c.if-not-is_below.true))
+    unchanged volume_bytes c.args.volumes.now _ 11 (prepare_pushed c.args.volumes.now c.args.commits.now c.args.vid (asked) (sym c.volumes_formed.ensures ∙ c.if-not-volumes_formed.false) (sym c.commits_formed.ensures ∙ c.if-not-commits_formed.false) (sym c.both_count.ensures ∙ c.if-not-both_count.false) (volume_says c.volume_at-v.result) (found_here c.args.volumes.now c.args.vid (sym c.volumes_formed.ensures ∙ c.if-not-volumes_formed.false) _ _ c.find_volume.ensures.says c.in-At.is c.volume_at-v.result c.volume_at-v.ensures) (sym c.none_pending.ensures ∙ c.if-not-none_pending.false) (ap (λ (m : Option ℕ). below m c.args.local.0) (sym c.watermark_of.ensures) ∙ sym c.is_below.ensures ∙ c.if-not-is_below.true))
 
 pub latest_lsn-requires : goal.latest_lsn-requires
-latest_lsn-requires c = (sym c.commits_formed.ensures ∙ not-false _ c.if-not-commits_formed.false)
+latest_lsn-requires c = (sym c.commits_formed.ensures ∙ c.if-not-commits_formed.false)
 
 pub returns-then-not-is_next : goal.returns-then-not-is_next
 returns-then-not-is_next c =
     let asked : Pending = record { local = c.args.local.0; commit = c.args.commit.0; hash = c.args.hash } in
-    unchanged volume_bytes c.args.volumes.now _ 12 (prepare_apart c.args.volumes.now c.args.commits.now c.args.vid (asked) (sym c.volumes_formed.ensures ∙ not-false _ c.if-not-volumes_formed.false) (sym c.commits_formed.ensures ∙ not-false _ c.if-not-commits_formed.false) (sym c.both_count.ensures ∙ not-false _ c.if-not-both_count.false) (volume_says c.volume_at-v.result) (found_here c.args.volumes.now c.args.vid (sym c.volumes_formed.ensures ∙ not-false _ c.if-not-volumes_formed.false) _ _ c.find_volume.ensures.says c.in-At.is c.volume_at-v.result c.volume_at-v.ensures) (sym c.none_pending.ensures ∙ not-false _ c.if-not-none_pending.false) (ap (λ (m : Option ℕ). below m c.args.local.0) (sym c.watermark_of.ensures) ∙ sym c.is_below.ensures ∙ not-false _ c.if-not-is_below.false) (ap (λ (m : Option ℕ). is_before m c.args.commit.0) (sym c.latest_lsn.ensures) ∙ sym c.is_next.ensures ∙ not-true _ c.if-not-is_next.true))
+    unchanged volume_bytes c.args.volumes.now _ 12 (prepare_apart c.args.volumes.now c.args.commits.now c.args.vid (asked) (sym c.volumes_formed.ensures ∙ c.if-not-volumes_formed.false) (sym c.commits_formed.ensures ∙ c.if-not-commits_formed.false) (sym c.both_count.ensures ∙ c.if-not-both_count.false) (volume_says c.volume_at-v.result) (found_here c.args.volumes.now c.args.vid (sym c.volumes_formed.ensures ∙ c.if-not-volumes_formed.false) _ _ c.find_volume.ensures.says c.in-At.is c.volume_at-v.result c.volume_at-v.ensures) (sym c.none_pending.ensures ∙ c.if-not-none_pending.false) (ap (λ (m : Option ℕ). below m c.args.local.0) (sym c.watermark_of.ensures) ∙ sym c.is_below.ensures ∙ c.if-not-is_below.false) (ap (λ (m : Option ℕ). is_before m c.args.commit.0) (sym c.latest_lsn.ensures) ∙ sym c.is_next.ensures ∙ c.if-not-is_next.true))
 
 pub returns-then-is_zero : goal.returns-then-is_zero
 returns-then-is_zero c =
     let asked : Pending = record { local = c.args.local.0; commit = c.args.commit.0; hash = c.args.hash } in
-    unchanged volume_bytes c.args.volumes.now _ 13 (prepare_zero_hash c.args.volumes.now c.args.commits.now c.args.vid (asked) (sym c.volumes_formed.ensures ∙ not-false _ c.if-not-volumes_formed.false) (sym c.commits_formed.ensures ∙ not-false _ c.if-not-commits_formed.false) (sym c.both_count.ensures ∙ not-false _ c.if-not-both_count.false) (volume_says c.volume_at-v.result) (found_here c.args.volumes.now c.args.vid (sym c.volumes_formed.ensures ∙ not-false _ c.if-not-volumes_formed.false) _ _ c.find_volume.ensures.says c.in-At.is c.volume_at-v.result c.volume_at-v.ensures) (sym c.none_pending.ensures ∙ not-false _ c.if-not-none_pending.false) (ap (λ (m : Option ℕ). below m c.args.local.0) (sym c.watermark_of.ensures) ∙ sym c.is_below.ensures ∙ not-false _ c.if-not-is_below.false) (ap (λ (m : Option ℕ). is_before m c.args.commit.0) (sym c.latest_lsn.ensures) ∙ sym c.is_next.ensures ∙ not-false _ c.if-not-is_next.false) (sym c.is_zero.ensures ∙ c.if-is_zero.true))
+    unchanged volume_bytes c.args.volumes.now _ 13 (prepare_zero_hash c.args.volumes.now c.args.commits.now c.args.vid (asked) (sym c.volumes_formed.ensures ∙ c.if-not-volumes_formed.false) (sym c.commits_formed.ensures ∙ c.if-not-commits_formed.false) (sym c.both_count.ensures ∙ c.if-not-both_count.false) (volume_says c.volume_at-v.result) (found_here c.args.volumes.now c.args.vid (sym c.volumes_formed.ensures ∙ c.if-not-volumes_formed.false) _ _ c.find_volume.ensures.says c.in-At.is c.volume_at-v.result c.volume_at-v.ensures) (sym c.none_pending.ensures ∙ c.if-not-none_pending.false) (ap (λ (m : Option ℕ). below m c.args.local.0) (sym c.watermark_of.ensures) ∙ sym c.is_below.ensures ∙ c.if-not-is_below.false) (ap (λ (m : Option ℕ). is_before m c.args.commit.0) (sym c.latest_lsn.ensures) ∙ sym c.is_next.ensures ∙ c.if-not-is_next.false) (sym c.is_zero.ensures ∙ c.if-is_zero.true))
 
 pub store_volume-requires : goal.store_volume-requires
 store_volume-requires c =
@@ -72,11 +71,11 @@ store_volume-requires c =
     let good : (counts c.args.local.0 && counts c.args.commit.0) ≡ true → pending_form (asked) ≡ true = λ h. let l : Fits w64 c.args.local.0 = search rules in
     let m : Fits w64 c.args.commit.0 = search rules in
     pending_good c.args.local.0 c.args.commit.0 c.args.hash h l.fits m.fits (search rules) (λ j. let f : Fits w8 (get_or c.args.hash j 0) = search rules in f.fits) in
-    let whole = store_ready c.args.volumes.now c.args.vid (sym c.volumes_formed.ensures ∙ not-false _ c.if-not-volumes_formed.false) _ _ c.find_volume.ensures.says c.in-At.is c.volume_at-v.result c.volume_at-v.ensures c.find_volume.ensures.place c.with_pending_commit.result (ap (λ (z : CodeVolume). z.vid) c.with_pending_commit.ensures) (ap volume_form (ap volume_says c.with_pending_commit.ensures) ∙ prepared_form (volume_says c.volume_at-v.result) (asked) (form_here c.args.volumes.now c.args.vid (sym c.volumes_formed.ensures ∙ not-false _ c.if-not-volumes_formed.false) _ _ c.find_volume.ensures.says c.in-At.is c.volume_at-v.result c.volume_at-v.ensures) (good (sym c.both_count.ensures ∙ not-false _ c.if-not-both_count.false))) in
+    let whole = store_ready c.args.volumes.now c.args.vid (sym c.volumes_formed.ensures ∙ c.if-not-volumes_formed.false) _ _ c.find_volume.ensures.says c.in-At.is c.volume_at-v.result c.volume_at-v.ensures c.find_volume.ensures.place c.with_pending_commit.result (ap (λ (z : CodeVolume). z.vid) c.with_pending_commit.ensures) (ap volume_form (ap volume_says c.with_pending_commit.ensures) ∙ prepared_form (volume_says c.volume_at-v.result) (asked) (form_here c.args.volumes.now c.args.vid (sym c.volumes_formed.ensures ∙ c.if-not-volumes_formed.false) _ _ c.find_volume.ensures.says c.in-At.is c.volume_at-v.result c.volume_at-v.ensures) (good (sym c.both_count.ensures ∙ c.if-not-both_count.false))) in
     record { t_value = whole.0; t_value_2 = whole.1 }
 
 pub returns : goal.returns
 returns c =
     let asked : Pending = record { local = c.args.local.0; commit = c.args.commit.0; hash = c.args.hash } in
-    let whole = changed volume_bytes c.args.volumes.now _ _ _ (prepare_done c.args.volumes.now c.args.commits.now c.args.vid (asked) (sym c.volumes_formed.ensures ∙ not-false _ c.if-not-volumes_formed.false) (sym c.commits_formed.ensures ∙ not-false _ c.if-not-commits_formed.false) (sym c.both_count.ensures ∙ not-false _ c.if-not-both_count.false) (volume_says c.volume_at-v.result) (found_here c.args.volumes.now c.args.vid (sym c.volumes_formed.ensures ∙ not-false _ c.if-not-volumes_formed.false) _ _ c.find_volume.ensures.says c.in-At.is c.volume_at-v.result c.volume_at-v.ensures) (sym c.none_pending.ensures ∙ not-false _ c.if-not-none_pending.false) (ap (λ (m : Option ℕ). below m c.args.local.0) (sym c.watermark_of.ensures) ∙ sym c.is_below.ensures ∙ not-false _ c.if-not-is_below.false) (ap (λ (m : Option ℕ). is_before m c.args.commit.0) (sym c.latest_lsn.ensures) ∙ sym c.is_next.ensures ∙ not-false _ c.if-not-is_next.false) (sym c.is_zero.ensures ∙ c.if-is_zero.false) ∙ ap (λ (z : Volume). done (store volume_key bytes z (volumes_in c.args.volumes.now))) (sym (ap volume_says c.with_pending_commit.ensures))) c.store_volume.ensures in
+    let whole = changed volume_bytes c.args.volumes.now _ _ _ (prepare_done c.args.volumes.now c.args.commits.now c.args.vid (asked) (sym c.volumes_formed.ensures ∙ c.if-not-volumes_formed.false) (sym c.commits_formed.ensures ∙ c.if-not-commits_formed.false) (sym c.both_count.ensures ∙ c.if-not-both_count.false) (volume_says c.volume_at-v.result) (found_here c.args.volumes.now c.args.vid (sym c.volumes_formed.ensures ∙ c.if-not-volumes_formed.false) _ _ c.find_volume.ensures.says c.in-At.is c.volume_at-v.result c.volume_at-v.ensures) (sym c.none_pending.ensures ∙ c.if-not-none_pending.false) (ap (λ (m : Option ℕ). below m c.args.local.0) (sym c.watermark_of.ensures) ∙ sym c.is_below.ensures ∙ c.if-not-is_below.false) (ap (λ (m : Option ℕ). is_before m c.args.commit.0) (sym c.latest_lsn.ensures) ∙ sym c.is_next.ensures ∙ c.if-not-is_next.false) (sym c.is_zero.ensures ∙ c.if-is_zero.false) ∙ ap (λ (z : Volume). done (store volume_key bytes z (volumes_in c.args.volumes.now))) (sym (ap volume_says c.with_pending_commit.ensures))) c.store_volume.ensures in
     record { value = whole.0; volumes_after = whole.1 }

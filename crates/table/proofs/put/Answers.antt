@@ -5,12 +5,12 @@ use Rattle.table.proofs.put.Goals as goal
 pub overwrite-requires : goal.overwrite-requires
 overwrite-requires c =
     let a = c.args in
-    at_ready a.stride a.klen a.t.now a.rec.now _ _ c.find.ensures c.in-At.is c.requires.stride_nonzero.0 c.requires.stride_nonzero.2 c.requires.t_value.0
+    at_ready a.stride a.klen a.t.now a.rec.now _ _ c.find.ensures c.in-At.is c.requires.stride_nonzero.0 c.requires.stride_nonzero.2 c.requires.t_value
 
 pub insert-requires : goal.insert-requires
 insert-requires c =
     let a = c.args in
-    gap_ready a.stride a.klen a.t.now a.rec.now _ _ c.find.ensures c.in-Gap.is c.requires.stride_nonzero.0 c.requires.stride_nonzero.2 c.requires.t_value.1
+    gap_ready a.stride a.klen a.t.now a.rec.now _ _ c.find.ensures c.in-Gap.is c.requires.stride_nonzero.0 c.requires.stride_nonzero.2 c.requires.t_value_2
 
 pub returns-in-At : goal.returns-in-At
 returns-in-At c =

@@ -1,6 +1,5 @@
 -- The invariant: the ranges that are left decide. The measure is how many they are.
 use Rattle.std.proofs.Common.{◌≡◌, ◌-◌, ◌<◌, length, sym, refl, ◌∙◌, arith, rules}
-use borrow.Author.Tests.{not-true, not-false}
 use Rattle.volume.specs.Volumes.{maybe_lsn_says, volume_says}
 use Rattle.volume.specs.Snapshots.{range_says}
 use Rattle.volume.proofs.PathLaws.{fails, goes_on, none_left}
@@ -15,7 +14,7 @@ returns-then-not-range_latest c =
     let l : length (c).args.t3 ≡ 8 = search rules in
     let h : c.loop-i.i < (c).args.len = omega arith in
     let k : c.loop-i.i < length (c).args.t3 = omega arith in
-    fails (λ x. latest_by (volume_says (c).args.v) (maybe_lsn_says (c).args.head) (range_says x)) _ (c).args.t3 (c).args.len c.loop-i.i h k (sym c.range_latest.ensures ∙ not-true _ c.if-not-range_latest.true) ∙ sym c.loop-i.invariant
+    fails (λ x. latest_by (volume_says (c).args.v) (maybe_lsn_says (c).args.head) (range_says x)) _ (c).args.t3 (c).args.len c.loop-i.i h k (sym c.range_latest.ensures ∙ c.if-not-range_latest.true) ∙ sym c.loop-i.invariant
 
 pub loop-i-smaller : goal.loop-i-smaller
 loop-i-smaller c = omega arith
@@ -25,7 +24,7 @@ loop-i-preserved c =
     let l : length (c).args.t3 ≡ 8 = search rules in
     let h : c.loop-i.i < (c).args.len = omega arith in
     let k : c.loop-i.i < length (c).args.t3 = omega arith in
-    c.loop-i.invariant ∙ goes_on (λ x. latest_by (volume_says (c).args.v) (maybe_lsn_says (c).args.head) (range_says x)) _ (c).args.t3 (c).args.len c.loop-i.i h k (sym c.range_latest.ensures ∙ not-false _ c.if-not-range_latest.false)
+    c.loop-i.invariant ∙ goes_on (λ x. latest_by (volume_says (c).args.v) (maybe_lsn_says (c).args.head) (range_says x)) _ (c).args.t3 (c).args.len c.loop-i.i h k (sym c.range_latest.ensures ∙ c.if-not-range_latest.false)
 
 pub returns : goal.returns
 returns c = none_left (λ x. latest_by (volume_says (c).args.v) (maybe_lsn_says (c).args.head) (range_says x)) (c).args.t3 (c).args.len c.loop-i.i (omega arith) ∙ sym c.loop-i.invariant

@@ -1,7 +1,6 @@
 -- By the log that the range names.
 use Rattle.std.proofs.Common.{ℕ, sym, ap, ◌∙◌}
 use mathlib.Core.Option.{Option}
-use borrow.Author.Tests.{not-true, not-false}
 use Rattle.rules.specs.Snapshots.{is_at}
 use Rattle.rules.proofs.Facts.{id_is}
 use Rattle.volume.specs.Volumes.{maybe_lsn_says, volume_says}
@@ -13,7 +12,7 @@ pub returns-then-same : goal.returns-then-same
 returns-then-same c = c.is_at.ensures ∙ local_end (volume_says (c).args.v) (maybe_lsn_says (c).args.head) (range_says (c).args.range) (sym (id_is _ _) ∙ sym c.same.ensures ∙ c.if-same.true)
 
 pub returns-then-not-same : goal.returns-then-not-same
-returns-then-not-same c = no_end (volume_says (c).args.v) (maybe_lsn_says (c).args.head) (range_says (c).args.range) (sym (id_is _ _) ∙ sym c.same.ensures ∙ c.if-same.false) (sym (id_is _ _) ∙ sym c.same-2.ensures ∙ not-true _ c.if-not-same.true)
+returns-then-not-same c = no_end (volume_says (c).args.v) (maybe_lsn_says (c).args.head) (range_says (c).args.range) (sym (id_is _ _) ∙ sym c.same.ensures ∙ c.if-same.false) (sym (id_is _ _) ∙ sym c.same-2.ensures ∙ c.if-not-same.true)
 
 pub returns : goal.returns
-returns c = c.is_at-2.ensures ∙ ap (λ (o : Option ℕ). is_at o (c).args.range.end.0) c.remote_of.ensures ∙ remote_end (volume_says (c).args.v) (maybe_lsn_says (c).args.head) (range_says (c).args.range) (sym (id_is _ _) ∙ sym c.same.ensures ∙ c.if-same.false) (sym (id_is _ _) ∙ sym c.same-2.ensures ∙ not-false _ c.if-not-same.false)
+returns c = c.is_at-2.ensures ∙ ap (λ (o : Option ℕ). is_at o (c).args.range.end.0) c.remote_of.ensures ∙ remote_end (volume_says (c).args.v) (maybe_lsn_says (c).args.head) (range_says (c).args.range) (sym (id_is _ _) ∙ sym c.same.ensures ∙ c.if-same.false) (sym (id_is _ _) ∙ sym c.same-2.ensures ∙ c.if-not-same.false)

@@ -1,7 +1,6 @@
 -- 20 where the table is not formed, 4 where the volume is not found; else it is stored without its pending commit.
 use Rattle.std.proofs.Common.{sym, ap, ◌∙◌}
 use mathlib.Core.Option.{Option, none}
-use borrow.Author.Tests.{not-true, not-false}
 use Rattle.basics.specs.Answers.{done, need, ◌>>=◌}
 use Rattle.layout.specs.Records.{volume_bytes}
 use Rattle.layout.proofs.LentLaws.{lent_no, unchanged, changed}
@@ -16,21 +15,21 @@ use Rattle.basics.specs.Orders.{bytes}
 use Rattle.volumecalls.proofs.drop_pending.Goals as goal
 
 pub returns-then-not-volumes_formed : goal.returns-then-not-volumes_formed
-returns-then-not-volumes_formed c = unchanged volume_bytes c.args.volumes.now _ 20 (lent_no _ _ (sym c.volumes_formed.ensures ∙ not-true _ c.if-not-volumes_formed.true))
+returns-then-not-volumes_formed c = unchanged volume_bytes c.args.volumes.now _ 20 (lent_no _ _ (sym c.volumes_formed.ensures ∙ c.if-not-volumes_formed.true))
 
 pub find_volume-requires : goal.find_volume-requires
-find_volume-requires c = (sym c.volumes_formed.ensures ∙ not-false _ c.if-not-volumes_formed.false)
+find_volume-requires c = (sym c.volumes_formed.ensures ∙ c.if-not-volumes_formed.false)
 
 pub returns-in_default : goal.returns-in_default
-returns-in_default c = unchanged volume_bytes c.args.volumes.now _ 4 (drop_is c.args.volumes.now c.args.vid (sym c.volumes_formed.ensures ∙ not-false _ c.if-not-volumes_formed.false) ∙ ap (λ (o : Option Volume). need o 4 >>= (λ v. done (store volume_key bytes (with_pending v none) (volumes_in c.args.volumes.now)))) (nowhere c.args.volumes.now c.args.vid (sym c.volumes_formed.ensures ∙ not-false _ c.if-not-volumes_formed.false) _ _ c.find_volume.ensures.says c.in_default.is))
+returns-in_default c = unchanged volume_bytes c.args.volumes.now _ 4 (drop_is c.args.volumes.now c.args.vid (sym c.volumes_formed.ensures ∙ c.if-not-volumes_formed.false) ∙ ap (λ (o : Option Volume). need o 4 >>= (λ v. done (store volume_key bytes (with_pending v none) (volumes_in c.args.volumes.now)))) (nowhere c.args.volumes.now c.args.vid (sym c.volumes_formed.ensures ∙ c.if-not-volumes_formed.false) _ _ c.find_volume.ensures.says c.in_default.is))
 
 pub volume_at-v-requires : goal.volume_at-v-requires
-volume_at-v-requires c = ((sym c.volumes_formed.ensures ∙ not-false _ c.if-not-volumes_formed.false), at_in 117 17 c.args.volumes.now _ _ _ c.find_volume.ensures.place c.in-At.is)
+volume_at-v-requires c = ((sym c.volumes_formed.ensures ∙ c.if-not-volumes_formed.false), at_in 117 17 c.args.volumes.now _ _ _ c.find_volume.ensures.place c.in-At.is)
 
 pub store_volume-requires : goal.store_volume-requires
-store_volume-requires c = let whole = drop_ready c.args.volumes.now c.args.vid (sym c.volumes_formed.ensures ∙ not-false _ c.if-not-volumes_formed.false) _ _ c.find_volume.ensures.place c.find_volume.ensures.says c.in-At.is c.volume_at-v.result c.with_pending_commit.result c.volume_at-v.ensures c.with_pending_commit.ensures in
+store_volume-requires c = let whole = drop_ready c.args.volumes.now c.args.vid (sym c.volumes_formed.ensures ∙ c.if-not-volumes_formed.false) _ _ c.find_volume.ensures.place c.find_volume.ensures.says c.in-At.is c.volume_at-v.result c.with_pending_commit.result c.volume_at-v.ensures c.with_pending_commit.ensures in
     record { t_value = whole.0; t_value_2 = whole.1 }
 
 pub returns : goal.returns
-returns c = let whole = changed volume_bytes c.args.volumes.now _ _ _ (drop_done c.args.volumes.now c.args.vid (sym c.volumes_formed.ensures ∙ not-false _ c.if-not-volumes_formed.false) _ _ c.find_volume.ensures.place c.find_volume.ensures.says c.in-At.is c.volume_at-v.result c.with_pending_commit.result c.volume_at-v.ensures c.with_pending_commit.ensures) c.store_volume.ensures in
+returns c = let whole = changed volume_bytes c.args.volumes.now _ _ _ (drop_done c.args.volumes.now c.args.vid (sym c.volumes_formed.ensures ∙ c.if-not-volumes_formed.false) _ _ c.find_volume.ensures.place c.find_volume.ensures.says c.in-At.is c.volume_at-v.result c.with_pending_commit.result c.volume_at-v.ensures c.with_pending_commit.ensures) c.store_volume.ensures in
     record { value = whole.0; volumes_after = whole.1 }

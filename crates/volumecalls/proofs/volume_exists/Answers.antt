@@ -1,7 +1,6 @@
 -- 20 where the table is not formed; else whether the lookup found the volume.
 use Rattle.std.proofs.Common.{sym, ap, ◌∙◌}
 use mathlib.Core.Option.{Option}
-use borrow.Author.Tests.{not-true, not-false}
 use Rattle.basics.specs.Answers.{done}
 use Rattle.layout.proofs.LentLaws.{lent_no}
 use Rattle.rules.specs.Records.{Volume}
@@ -13,13 +12,13 @@ use Rattle.table.proofs.Ends.{at_in}
 use Rattle.volumecalls.proofs.volume_exists.Goals as goal
 
 pub returns-then-not-volumes_formed : goal.returns-then-not-volumes_formed
-returns-then-not-volumes_formed c = sym (lent_no _ _ (sym c.volumes_formed.ensures ∙ not-true _ c.if-not-volumes_formed.true))
+returns-then-not-volumes_formed c = sym (lent_no _ _ (sym c.volumes_formed.ensures ∙ c.if-not-volumes_formed.true))
 
 pub find_volume-requires : goal.find_volume-requires
-find_volume-requires c = (sym c.volumes_formed.ensures ∙ not-false _ c.if-not-volumes_formed.false)
+find_volume-requires c = (sym c.volumes_formed.ensures ∙ c.if-not-volumes_formed.false)
 
 pub returns-in-At : goal.returns-in-At
-returns-in-At c = sym (exists_is c.args.volumes.now c.args.vid (sym c.volumes_formed.ensures ∙ not-false _ c.if-not-volumes_formed.false) ∙ ap (λ (o : Option Volume). done (is_some o)) (sym (here c.args.volumes.now c.args.vid (sym c.volumes_formed.ensures ∙ not-false _ c.if-not-volumes_formed.false) _ _ c.find_volume.ensures.says c.in-At.is) ∙ row_nth volumes c.args.volumes.now _ (at_in 117 17 c.args.volumes.now _ _ _ c.find_volume.ensures.place c.in-At.is)))
+returns-in-At c = sym (exists_is c.args.volumes.now c.args.vid (sym c.volumes_formed.ensures ∙ c.if-not-volumes_formed.false) ∙ ap (λ (o : Option Volume). done (is_some o)) (sym (here c.args.volumes.now c.args.vid (sym c.volumes_formed.ensures ∙ c.if-not-volumes_formed.false) _ _ c.find_volume.ensures.says c.in-At.is) ∙ row_nth volumes c.args.volumes.now _ (at_in 117 17 c.args.volumes.now _ _ _ c.find_volume.ensures.place c.in-At.is)))
 
 pub returns-in-Gap : goal.returns-in-Gap
-returns-in-Gap c = sym (exists_is c.args.volumes.now c.args.vid (sym c.volumes_formed.ensures ∙ not-false _ c.if-not-volumes_formed.false) ∙ ap (λ (o : Option Volume). done (is_some o)) (nowhere c.args.volumes.now c.args.vid (sym c.volumes_formed.ensures ∙ not-false _ c.if-not-volumes_formed.false) _ _ c.find_volume.ensures.says c.in-Gap.is))
+returns-in-Gap c = sym (exists_is c.args.volumes.now c.args.vid (sym c.volumes_formed.ensures ∙ c.if-not-volumes_formed.false) ∙ ap (λ (o : Option Volume). done (is_some o)) (nowhere c.args.volumes.now c.args.vid (sym c.volumes_formed.ensures ∙ c.if-not-volumes_formed.false) _ _ c.find_volume.ensures.says c.in-Gap.is))

@@ -10,7 +10,7 @@ use Rattle.writecalls.proofs.Rows.{is_form, set_normal, entry_rows_lem, fresh_is
 use Rattle.writecalls.proofs.put_entries.Goals as goal
 
 pub put_entries-requires : goal.put_entries-requires
-put_entries-requires c = record { t_value = formed_well index c.args.t.now c.requires.t_value.0; set_value = set_normal c.args.c.now c.requires.t_value.1 c.commit_pages-set.result c.commit_pages-set.ensures; fresh_value = c.requires.t_value_2.1 ∙ sym (fresh_is c.args.c.now c.requires.t_value.1 c.commit_pages-set.result c.commit_pages-set.ensures c.commit_log-log.result c.commit_log-log.ensures c.commit_lsn-lsn.result.0 c.commit_lsn-lsn.ensures c.args.t.now); t_value_2 = rows_fit index c.args.t.now c.requires.t_value.0 (entries_of (commit_in c.args.c.now)) (entries_form (commit_in c.args.c.now) (is_form c.args.c.now c.requires.t_value.1)) _ (entry_rows_lem c.args.c.now c.requires.t_value.1 c.commit_pages-set.result c.commit_pages-set.ensures c.commit_log-log.result c.commit_log-log.ensures c.commit_lsn-lsn.result.0 c.commit_lsn-lsn.ensures) ∙ c.requires.t_value_2.0 }
+put_entries-requires c = record { t_value = formed_well index c.args.t.now c.requires.t_value.0; set_value = set_normal c.args.c.now c.requires.t_value.1 c.commit_pages-set.result c.commit_pages-set.ensures; fresh_value = c.requires.fresh_value ∙ sym (fresh_is c.args.c.now c.requires.t_value.1 c.commit_pages-set.result c.commit_pages-set.ensures c.commit_log-log.result c.commit_log-log.ensures c.commit_lsn-lsn.result.0 c.commit_lsn-lsn.ensures c.args.t.now); t_value_2 = rows_fit index c.args.t.now c.requires.t_value.0 (entries_of (commit_in c.args.c.now)) (entries_form (commit_in c.args.c.now) (is_form c.args.c.now c.requires.t_value.1)) _ (entry_rows_lem c.args.c.now c.requires.t_value.1 c.commit_pages-set.result c.commit_pages-set.ensures c.commit_log-log.result c.commit_log-log.ensures c.commit_lsn-lsn.result.0 c.commit_lsn-lsn.ensures) ∙ c.requires.t_value_2 }
 
 pub returns : goal.returns
 returns c = c.put_entries.ensures ∙ rows_laid index c.args.t.now c.requires.t_value.0 (entries_of (commit_in c.args.c.now)) (entries_form (commit_in c.args.c.now) (is_form c.args.c.now c.requires.t_value.1)) _ (entry_rows_lem c.args.c.now c.requires.t_value.1 c.commit_pages-set.result c.commit_pages-set.ensures c.commit_log-log.result c.commit_log-log.ensures c.commit_lsn-lsn.result.0 c.commit_lsn-lsn.ensures)

@@ -1,14 +1,13 @@
 -- `values::decimal` meets its contract. The invariant: n is at most the limit, and what is left of the text, behind the digits of n, gives what the whole text gives. A number above the limit only grows. The measure: what is left of the text. Assumes nothing.
 use Rattle.std.proofs.Common.{◌-◌, true, sym, refl, ◌∙◌, arith, rules}
-use borrow.Author.Tests.{not-true, not-false}
 use Rattle.callline.proofs.ValueLaws.{below, above, large, step, spent, led, unled}
 use Rattle.callline.proofs.values.decimal.Goals as goal
 
 pub returns-then-not-has_lead : goal.returns-then-not-has_lead
-returns-then-not-has_lead c = sym (unled c.args.limit c.args.s.now (sym c.has_lead.ensures ∙ not-true _ c.if-not-has_lead.true))
+returns-then-not-has_lead c = sym (unled c.args.limit c.args.s.now (sym c.has_lead.ensures ∙ c.if-not-has_lead.true))
 
 pub loop-i-init : goal.loop-i-init
-loop-i-init c = (search rules, search rules, sym c.has_lead.ensures ∙ not-false _ c.if-not-has_lead.false, refl)
+loop-i-init c = (search rules, search rules, sym c.has_lead.ensures ∙ c.if-not-has_lead.false, refl)
 
 pub returns-then-b-lt48 : goal.returns-then-b-lt48
 returns-then-b-lt48 c = let l = c.loop-i in let s = c.args.s.now in let k = c.args.limit in sym (led k s l.invariant.2 ∙ l.invariant.3 ∙ below k l.n s l.i (omega arith) (omega arith))

@@ -1,6 +1,5 @@
 -- Each test that fails makes the form fail; where all pass, the zeros behind the LSNs are left to decide. Assumes nothing.
 use Rattle.std.proofs.Common.{sym, ◌∙◌, arith}
-use borrow.Author.Tests.{not-true, not-false}
 use Rattle.commitbytes.proofs.LsnLaws.{over_8, with_zero, but_clear}
 use Rattle.commitbytes.proofs.lsns.lsns_form.Goals as goal
 
@@ -10,8 +9,8 @@ returns-then-n-gt8 c =
 
 pub returns-then-not-none_zero : goal.returns-then-not-none_zero
 returns-then-not-none_zero c =
-    sym (with_zero c.args.s.now (λ j. (c.type_inv.s j).fits) c.args.at c.requires _ c.load8-n.ensures (omega arith) (sym c.none_zero.ensures ∙ not-true _ c.if-not-none_zero.true))
+    sym (with_zero c.args.s.now (λ j. (c.type_inv.s j).fits) c.args.at c.requires _ c.load8-n.ensures (omega arith) (sym c.none_zero.ensures ∙ c.if-not-none_zero.true))
 
 pub returns : goal.returns
 returns c =
-    c.all_zero.ensures ∙ but_clear c.args.s.now (λ j. (c.type_inv.s j).fits) c.args.at c.requires _ c.load8-n.ensures (omega arith) (sym c.none_zero.ensures ∙ not-false _ c.if-not-none_zero.false)
+    c.all_zero.ensures ∙ but_clear c.args.s.now (λ j. (c.type_inv.s j).fits) c.args.at c.requires _ c.load8-n.ensures (omega arith) (sym c.none_zero.ensures ∙ c.if-not-none_zero.false)

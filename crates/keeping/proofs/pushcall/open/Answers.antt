@@ -19,5 +19,5 @@ returns c =
     let l = wanted_by g.has-local g.local g.spare_local in
     let r = wanted_by g.has-remote g.remote g.spare_remote in
     let whole = open_keeps g.volumes.now _ g.commits.now (asked v l r) (spares v l r) g.out.now
-    (open_typed v.asked l.asked r.asked g.vid g.local g.remote g.spare_vid g.spare_local g.spare_remote (vid_typed) (local_typed) (remote_typed) (spare_vid_typed) (spare_local_typed) (spare_remote_typed)) c.sigatuda_open.ensures.volumes_after.0 in
+    (open_typed v.asked l.asked r.asked g.vid g.local g.remote g.spare_vid g.spare_local g.spare_remote (vid_typed) (local_typed) (remote_typed) (spare_vid_typed) (spare_local_typed) (spare_remote_typed)) c.sigatuda_open.ensures.volumes_after in
     record { keeps = whole.0; stays_formed = whole.1 }

@@ -1,6 +1,5 @@
 -- The invariant: the ranges that are left decide. The measure is how far the end is. Assumes nothing.
 use Rattle.std.proofs.Common.{◌≡◌, ◌-◌, ◌<◌, length, sym, refl, ◌∙◌, arith, rules}
-use borrow.Author.Tests.{not-true, not-false}
 use Rattle.volume.specs.Snapshots.{passes_test}
 use Rattle.volume.proofs.PathLaws.{fails, goes_on, none_left}
 use Rattle.volume.proofs.snapshot.all_pass.Goals as goal
@@ -18,7 +17,7 @@ returns-then-not-passes c =
     let l : length c.args.path ≡ 8 = search rules in
     let h : c.loop-i.i < c.args.to = omega arith in
     let k : c.loop-i.i < length c.args.path = omega arith in
-    fails (passes_test c.args.test) _ c.args.path c.args.to c.loop-i.i h k (sym c.passes.ensures ∙ not-true _ c.if-not-passes.true) ∙ sym c.loop-i.invariant
+    fails (passes_test c.args.test) _ c.args.path c.args.to c.loop-i.i h k (sym c.passes.ensures ∙ c.if-not-passes.true) ∙ sym c.loop-i.invariant
 
 pub loop-i-smaller : goal.loop-i-smaller
 loop-i-smaller c = omega arith
@@ -28,7 +27,7 @@ loop-i-preserved c =
     let l : length c.args.path ≡ 8 = search rules in
     let h : c.loop-i.i < c.args.to = omega arith in
     let k : c.loop-i.i < length c.args.path = omega arith in
-    c.loop-i.invariant ∙ goes_on (passes_test c.args.test) _ c.args.path c.args.to c.loop-i.i h k (sym c.passes.ensures ∙ not-false _ c.if-not-passes.false)
+    c.loop-i.invariant ∙ goes_on (passes_test c.args.test) _ c.args.path c.args.to c.loop-i.i h k (sym c.passes.ensures ∙ c.if-not-passes.false)
 
 pub returns : goal.returns
 returns c =

@@ -1,6 +1,5 @@
 -- The tests are the checks of the rule, in its order; what passes them is the rule's answer as it is laid out. Assumes nothing.
 use Rattle.std.proofs.Common.{sym, ap, ◌∙◌}
-use borrow.Author.Tests.{not-true, not-false}
 use Rattle.volume.specs.Snapshots.{laid_answer, zero_code}
 use Rattle.volume.proofs.SnapshotLaws.{places, own_lsns, range_lsns_lem, own_order, range_order_lem, not_formed, full, fits, laid_more}
 use Rattle.volume.proofs.snapshot.Snapshot.append.Goals as goal
@@ -13,7 +12,7 @@ returns-then-not-has_lsns c =
     (own_lsns
     _
     _
-    (sym c.has_lsns.ensures ∙ not-true _ c.if-not-has_lsns.true))
+    (sym c.has_lsns.ensures ∙ c.if-not-has_lsns.true))
 
 pub returns-then-not-has_lsns-2 : goal.returns-then-not-has_lsns-2
 returns-then-not-has_lsns-2 c =
@@ -23,8 +22,8 @@ returns-then-not-has_lsns-2 c =
     (range_lsns_lem
     _
     _
-    (sym c.has_lsns.ensures ∙ not-false _ c.if-not-has_lsns.false)
-    (sym c.has_lsns-2.ensures ∙ not-true _ c.if-not-has_lsns-2.true))
+    (sym c.has_lsns.ensures ∙ c.if-not-has_lsns.false)
+    (sym c.has_lsns-2.ensures ∙ c.if-not-has_lsns-2.true))
 
 pub returns-then-not-is_ordered : goal.returns-then-not-is_ordered
 returns-then-not-is_ordered c =
@@ -34,9 +33,9 @@ returns-then-not-is_ordered c =
     (own_order
     _
     _
-    (sym c.has_lsns.ensures ∙ not-false _ c.if-not-has_lsns.false)
-    (sym c.has_lsns-2.ensures ∙ not-false _ c.if-not-has_lsns-2.false)
-    (sym c.is_ordered.ensures ∙ not-true _ c.if-not-is_ordered.true))
+    (sym c.has_lsns.ensures ∙ c.if-not-has_lsns.false)
+    (sym c.has_lsns-2.ensures ∙ c.if-not-has_lsns-2.false)
+    (sym c.is_ordered.ensures ∙ c.if-not-is_ordered.true))
 
 pub returns-then-not-is_ordered-2 : goal.returns-then-not-is_ordered-2
 returns-then-not-is_ordered-2 c =
@@ -46,10 +45,10 @@ returns-then-not-is_ordered-2 c =
     (range_order_lem
     _
     _
-    (sym c.has_lsns.ensures ∙ not-false _ c.if-not-has_lsns.false)
-    (sym c.has_lsns-2.ensures ∙ not-false _ c.if-not-has_lsns-2.false)
-    (sym c.is_ordered.ensures ∙ not-false _ c.if-not-is_ordered.false)
-    (sym c.is_ordered-2.ensures ∙ not-true _ c.if-not-is_ordered-2.true))
+    (sym c.has_lsns.ensures ∙ c.if-not-has_lsns.false)
+    (sym c.has_lsns-2.ensures ∙ c.if-not-has_lsns-2.false)
+    (sym c.is_ordered.ensures ∙ c.if-not-is_ordered.false)
+    (sym c.is_ordered-2.ensures ∙ c.if-not-is_ordered-2.true))
 
 pub returns-then-not-is_formed : goal.returns-then-not-is_formed
 returns-then-not-is_formed c =
@@ -59,11 +58,11 @@ returns-then-not-is_formed c =
     (not_formed
     _
     _
-    (sym c.has_lsns.ensures ∙ not-false _ c.if-not-has_lsns.false)
-    (sym c.has_lsns-2.ensures ∙ not-false _ c.if-not-has_lsns-2.false)
-    (sym c.is_ordered.ensures ∙ not-false _ c.if-not-is_ordered.false)
-    (sym c.is_ordered-2.ensures ∙ not-false _ c.if-not-is_ordered-2.false)
-    (sym c.is_formed.ensures ∙ not-true _ c.if-not-is_formed.true))
+    (sym c.has_lsns.ensures ∙ c.if-not-has_lsns.false)
+    (sym c.has_lsns-2.ensures ∙ c.if-not-has_lsns-2.false)
+    (sym c.is_ordered.ensures ∙ c.if-not-is_ordered.false)
+    (sym c.is_ordered-2.ensures ∙ c.if-not-is_ordered-2.false)
+    (sym c.is_formed.ensures ∙ c.if-not-is_formed.true))
 
 pub returns-then-self-ge8 : goal.returns-then-self-ge8
 returns-then-self-ge8 c =
@@ -73,11 +72,11 @@ returns-then-self-ge8 c =
     (full
     _
     _
-    (sym c.has_lsns.ensures ∙ not-false _ c.if-not-has_lsns.false)
-    (sym c.has_lsns-2.ensures ∙ not-false _ c.if-not-has_lsns-2.false)
-    (sym c.is_ordered.ensures ∙ not-false _ c.if-not-is_ordered.false)
-    (sym c.is_ordered-2.ensures ∙ not-false _ c.if-not-is_ordered-2.false)
-    (sym c.is_formed.ensures ∙ not-false _ c.if-not-is_formed.false)
+    (sym c.has_lsns.ensures ∙ c.if-not-has_lsns.false)
+    (sym c.has_lsns-2.ensures ∙ c.if-not-has_lsns-2.false)
+    (sym c.is_ordered.ensures ∙ c.if-not-is_ordered.false)
+    (sym c.is_ordered-2.ensures ∙ c.if-not-is_ordered-2.false)
+    (sym c.is_formed.ensures ∙ c.if-not-is_formed.false)
     (places c.args.self _ c.well_formed.0)
     c.if-self-ge8.true)
 
@@ -92,16 +91,16 @@ returns c =
     c.args.range
     (places c.args.self _ c.well_formed.0)
     c.if-self-ge8.false
-    (sym c.is_formed.ensures ∙ not-false _ c.if-not-is_formed.false))
+    (sym c.is_formed.ensures ∙ c.if-not-is_formed.false))
     ∙ ap
     laid_answer
     (fits
     _
     _
-    (sym c.has_lsns.ensures ∙ not-false _ c.if-not-has_lsns.false)
-    (sym c.has_lsns-2.ensures ∙ not-false _ c.if-not-has_lsns-2.false)
-    (sym c.is_ordered.ensures ∙ not-false _ c.if-not-is_ordered.false)
-    (sym c.is_ordered-2.ensures ∙ not-false _ c.if-not-is_ordered-2.false)
-    (sym c.is_formed.ensures ∙ not-false _ c.if-not-is_formed.false)
+    (sym c.has_lsns.ensures ∙ c.if-not-has_lsns.false)
+    (sym c.has_lsns-2.ensures ∙ c.if-not-has_lsns-2.false)
+    (sym c.is_ordered.ensures ∙ c.if-not-is_ordered.false)
+    (sym c.is_ordered-2.ensures ∙ c.if-not-is_ordered-2.false)
+    (sym c.is_formed.ensures ∙ c.if-not-is_formed.false)
     (places c.args.self _ c.well_formed.0)
     c.if-self-ge8.false)

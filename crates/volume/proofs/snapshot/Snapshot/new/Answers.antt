@@ -1,13 +1,12 @@
 -- The tests are the checks of the rule, in its order. Assumes nothing.
 use Rattle.std.proofs.Common.{◌≡◌, sym, ap, ◌∙◌, arith}
-use borrow.Author.Tests.{not-true, not-false}
 use Rattle.volume.specs.declared.snapshot.Snapshot.{Snapshot}
 use Rattle.volume.specs.Snapshots.{laid, laid_answer, with_range, zero_code}
 use Rattle.volume.proofs.SnapshotLaws.{new_lsns, new_order, new_done, laid_one}
 use Rattle.volume.proofs.snapshot.Snapshot.new.Goals as goal
 
 pub returns-then-not-has_lsns : goal.returns-then-not-has_lsns
-returns-then-not-has_lsns c = c.refused.ensures ∙ ap laid_answer (new_lsns _ _ (sym c.has_lsns.ensures ∙ not-true _ c.if-not-has_lsns.true))
+returns-then-not-has_lsns c = c.refused.ensures ∙ ap laid_answer (new_lsns _ _ (sym c.has_lsns.ensures ∙ c.if-not-has_lsns.true))
 
 pub returns-then-not-is_ordered : goal.returns-then-not-is_ordered
 returns-then-not-is_ordered c =
@@ -17,8 +16,8 @@ returns-then-not-is_ordered c =
     (new_order
     _
     _
-    (sym c.has_lsns.ensures ∙ not-false _ c.if-not-has_lsns.false)
-    (sym c.is_ordered.ensures ∙ not-true _ c.if-not-is_ordered.true))
+    (sym c.has_lsns.ensures ∙ c.if-not-has_lsns.false)
+    (sym c.is_ordered.ensures ∙ c.if-not-is_ordered.true))
 
 pub with_range-requires : goal.with_range-requires
 unfolding laid
@@ -39,5 +38,5 @@ returns c =
     (new_done
     _
     _
-    (sym c.has_lsns.ensures ∙ not-false _ c.if-not-has_lsns.false)
-    (sym c.is_ordered.ensures ∙ not-false _ c.if-not-is_ordered.false))
+    (sym c.has_lsns.ensures ∙ c.if-not-has_lsns.false)
+    (sym c.is_ordered.ensures ∙ c.if-not-is_ordered.false))
