@@ -3,7 +3,7 @@ ghost use Rattle.std.specs.Prelude.{◌≡◌};
 ghost use Rattle.basics.specs.Answers.{done};
 ghost use Rattle.basics.specs.Says.{lsn_says, maybe_lsn_says, page_says, maybe_page_says};
 ghost use Rattle.volume.specs.Volumes.{changes_says};
-ghost use Rattle.pagecalls.specs.Says.{count_says, page_says as endSays, yes_says};
+ghost use Rattle.pagecalls.specs.Says.{count_says, page_says as end_says, yes_says};
 ghost use Rattle.arguments.specs.Replies.{value, value_or, yes_or_no, numbered_reply, bit as bit_of};
 
 use super::Reply;
@@ -99,7 +99,7 @@ pub fn put_count(a: CountAnswer, out: &mut u32) -> Reply
 
 // A set's first or last page, or nothing.
 pub fn put_end(a: pagecalls::PageAnswer, out: &mut u32) -> Reply
-    ensures { (result, out.new) ≡ value_or (λ m. m) out.old (endSays a) }
+    ensures { (result, out.new) ≡ value_or (λ m. m) out.old (end_says a) }
 {
     match a {
         pagecalls::PageAnswer::Refused(code) => Reply { code, found: 0 },

@@ -1,6 +1,6 @@
 // What changed in a log, and snapshots.
 ghost use Rattle.std.specs.Prelude.{◌≡◌};
-ghost use Rattle.rules.specs.Sync.{changes as changesRule};
+ghost use Rattle.rules.specs.Sync.{changes as changes_rule};
 ghost use Rattle.rules.specs.Arguments.{snapshot_new};
 ghost use Rattle.volume.specs.Snapshots.{range_says};
 ghost use Rattle.volume.specs.Volumes.{maybe_lsn_says};
@@ -35,7 +35,7 @@ pub extern "C" fn sigatuda_changes(
     start: &mut u64,
     end: &mut u64,
 ) -> Reply
-    ensures { (result, (start.new, end.new)) ≡ value_or (λ m. m) (start.old, end.old) (changesRule (flagged has_base base) (flagged has_head head)) }
+    ensures { (result, (start.new, end.new)) ≡ value_or (λ m. m) (start.old, end.old) (changes_rule (flagged has_base base) (flagged has_head head)) }
 {
     replies::put_changes(
         changes(flagged_lsn(has_base, base), flagged_lsn(has_head, head)),

@@ -4,7 +4,7 @@ ghost use Rattle.basics.specs.Answers.{code, done};
 ghost use Rattle.rules.specs.Records.{Volume};
 ghost use Rattle.rules.specs.Tables.{Table};
 ghost use Rattle.rules.specs.Write.{Logs};
-ghost use Rattle.rules.specs.Push.{recover as recoverRule};
+ghost use Rattle.rules.specs.Push.{recover as recover_rule};
 ghost use Rattle.layout.specs.Records.{volume_bytes, commit_bytes, checkpoint_bytes, entry_bytes};
 ghost use Rattle.layout.specs.Tables.{volumes_in, volumes_ok, commits_in, commits_ok};
 ghost use Rattle.layout.specs.Lent.{lent, after};
@@ -46,11 +46,11 @@ pub extern "C" fn sigatuda_recover(
     index: &mut [u8],
     vid: &[u8; 16],
 ) -> Reply
-    ensures value { result ≡ numbered_reply (number_of (lent (push_ok volumes.old commits.old checkpoints.old index.old) (done (recoverRule (volumes_in volumes.old) (logs_in commits.old checkpoints.old index.old) vid.now)))) }
-    ensures volumes_after { volumes.new ≡ after volume_bytes (λ (r : ℕ × Table Volume × Logs). r.1) volumes.old (lent (push_ok volumes.old commits.old checkpoints.old index.old) (done (recoverRule (volumes_in volumes.old) (logs_in commits.old checkpoints.old index.old) vid.now))) }
-    ensures commits_after { commits.new ≡ after commit_bytes (λ (r : ℕ × Table Volume × Logs). r.2.commits) commits.old (lent (push_ok volumes.old commits.old checkpoints.old index.old) (done (recoverRule (volumes_in volumes.old) (logs_in commits.old checkpoints.old index.old) vid.now))) }
-    ensures checkpoints_after { checkpoints.new ≡ after checkpoint_bytes (λ (r : ℕ × Table Volume × Logs). r.2.checkpoints) checkpoints.old (lent (push_ok volumes.old commits.old checkpoints.old index.old) (done (recoverRule (volumes_in volumes.old) (logs_in commits.old checkpoints.old index.old) vid.now))) }
-    ensures index_after { index.new ≡ after entry_bytes (λ (r : ℕ × Table Volume × Logs). r.2.index) index.old (lent (push_ok volumes.old commits.old checkpoints.old index.old) (done (recoverRule (volumes_in volumes.old) (logs_in commits.old checkpoints.old index.old) vid.now))) }
+    ensures value { result ≡ numbered_reply (number_of (lent (push_ok volumes.old commits.old checkpoints.old index.old) (done (recover_rule (volumes_in volumes.old) (logs_in commits.old checkpoints.old index.old) vid.now)))) }
+    ensures volumes_after { volumes.new ≡ after volume_bytes (λ (r : ℕ × Table Volume × Logs). r.1) volumes.old (lent (push_ok volumes.old commits.old checkpoints.old index.old) (done (recover_rule (volumes_in volumes.old) (logs_in commits.old checkpoints.old index.old) vid.now))) }
+    ensures commits_after { commits.new ≡ after commit_bytes (λ (r : ℕ × Table Volume × Logs). r.2.commits) commits.old (lent (push_ok volumes.old commits.old checkpoints.old index.old) (done (recover_rule (volumes_in volumes.old) (logs_in commits.old checkpoints.old index.old) vid.now))) }
+    ensures checkpoints_after { checkpoints.new ≡ after checkpoint_bytes (λ (r : ℕ × Table Volume × Logs). r.2.checkpoints) checkpoints.old (lent (push_ok volumes.old commits.old checkpoints.old index.old) (done (recover_rule (volumes_in volumes.old) (logs_in commits.old checkpoints.old index.old) vid.now))) }
+    ensures index_after { index.new ≡ after entry_bytes (λ (r : ℕ × Table Volume × Logs). r.2.index) index.old (lent (push_ok volumes.old commits.old checkpoints.old index.old) (done (recover_rule (volumes_in volumes.old) (logs_in commits.old checkpoints.old index.old) vid.now))) }
 {
     let id = *vid;
     numbered(pushcalls::recover(volumes, commits, checkpoints, index, id))

@@ -5,7 +5,7 @@ ghost use Rattle.rules.specs.Reads.{tag_read, tag_exists, tag_delete, tag_replac
 ghost use Rattle.layout.specs.Records.{tag_bytes};
 ghost use Rattle.layout.specs.Tables.{tags_in, tags_ok};
 ghost use Rattle.layout.specs.Lent.{lent, after};
-ghost use Rattle.tagcalls.specs.Says.{earlier as earlierOf};
+ghost use Rattle.tagcalls.specs.Says.{earlier as earlier_of};
 ghost use Rattle.arguments.specs.Replies.{numbered_reply, yes_or_no, value_or};
 
 use arguments::{Reply, replies};
@@ -45,7 +45,7 @@ pub extern "C" fn sigatuda_tag_replace(
     vid: &[u8; 16],
     earlier: &mut [u8; 16],
 ) -> Reply
-    ensures earlier_after { (result, earlier.new) ≡ value_or (λ v. v) earlier.old (earlierOf (lent (tags_ok tags.old) (tag_replace (tags_in tags.old) name.now vid.now))) }
+    ensures earlier_after { (result, earlier.new) ≡ value_or (λ v. v) earlier.old (earlier_of (lent (tags_ok tags.old) (tag_replace (tags_in tags.old) name.now vid.now))) }
     ensures tags_after { tags.new ≡ after tag_bytes (λ p. p.1) tags.old (lent (tags_ok tags.old) (tag_replace (tags_in tags.old) name.now vid.now)) }
 {
     put_tagged(tag_replace(tags, name, *vid), earlier)

@@ -1,6 +1,6 @@
 // What a reader sees of a volume: its snapshot, and whether a snapshot is the latest.
 ghost use Rattle.std.specs.Prelude.{◌≡◌, ◌&&◌};
-ghost use Rattle.rules.specs.Snapshots.{snapshot as snapshotRule};
+ghost use Rattle.rules.specs.Snapshots.{snapshot as snapshot_rule};
 ghost use Rattle.layout.specs.Tables.{volumes_in, volumes_ok, commits_in, commits_ok};
 ghost use Rattle.layout.specs.Values.{snapshot_bytes};
 ghost use Rattle.layout.specs.Lent.{lent};
@@ -17,7 +17,7 @@ pub extern "C" fn sigatuda_snapshot(
     vid: &[u8; 16],
     out: &mut [u8],
 ) -> Reply
-    ensures { (result, out.new) ≡ value snapshot_bytes.spell out.old (lent (volumes_ok volumes.now && commits_ok commits.now) (placed snapshot_bytes.size out.old (snapshotRule (volumes_in volumes.now) (commits_in commits.now) vid.now))) }
+    ensures { (result, out.new) ≡ value snapshot_bytes.spell out.old (lent (volumes_ok volumes.now && commits_ok commits.now) (placed snapshot_bytes.size out.old (snapshot_rule (volumes_in volumes.now) (commits_in commits.now) vid.now))) }
 {
     viewargs::snapshot(volumes, commits, *vid, out)
 }

@@ -5,7 +5,7 @@ ghost use Rattle.pageset.specs.Sets.{shown, normal};
 ghost use Rattle.volume.specs.Snapshots.{head_of};
 ghost use Rattle.layout.specs.Values.{set_bytes};
 ghost use Rattle.layout.specs.Records.{commit_bytes};
-ghost use Rattle.arguments.specs.Snapshots.{snapshot_in, head_says as saysHead};
+ghost use Rattle.arguments.specs.Snapshots.{snapshot_in, head_says as says_head};
 ghost use Rattle.commitbytes.specs.Laid.{commit_laid};
 ghost use Rattle.calltext.specs.Says.{head_says};
 ghost use Rattle.callvalues.specs.Values.{id_of, fetched, shortly, commit_head};
@@ -68,7 +68,7 @@ pub fn fetched_bytes(
 
 // A snapshot's head as it is printed.
 pub fn short_head(head: volume::snapshot::Head) -> Head
-    ensures { head_says result ≡ shortly (saysHead head) }
+    ensures { head_says result ≡ shortly (says_head head) }
 {
     let lsn = head.lsn;
     let MaybeLsn::At(n) = lsn else {

@@ -1,7 +1,7 @@
 // The four slots that hold snapshots, 263 bytes each: a byte that is 0 while the slot is unset, and a snapshot.
 ghost use Rattle.std.specs.Prelude.{◌≡◌, ◌≤◌, true, length};
 ghost use Rattle.volume.specs.Snapshots.{snapshot_says, in_form};
-ghost use Rattle.callvalues.specs.Slots.{is_set, held as heldIn, slot_set};
+ghost use Rattle.callvalues.specs.Slots.{is_set, held as held_in, slot_set};
 
 use snapshotbytes::snapshot_write;
 use volume::snapshot::Snapshot;
@@ -24,7 +24,7 @@ pub fn is_set(slots: &[u8], slot: u8) -> bool
 // The snapshot in a slot.
 pub fn held(slots: &[u8], slot: u8) -> [u8; 262]
     requires { (slot ≤ 3) × (length slots.now ≡ 1052) }
-    ensures { result ≡ heldIn slots.now slot }
+    ensures { result ≡ held_in slots.now slot }
 {
     let mut snapshot = [0u8; 262];
     octets::load_all(slots, slot as usize * SLOT + 1, &mut snapshot);

@@ -46,7 +46,7 @@ pub record Copying (log : Id) (wc : Table Commit) (wk : Table Checkpoint) (we : 
   pub in_commits : Storing commits (renumbered log (path_commits (commits_in cs) (left_says rest))) cs₀ wc cs
   pub in_checkpoints : Storing checkpoints (each checkpoints_of (renumbered log (path_commits (commits_in cs) (left_says rest)))) ks₀ wk ks
   pub in_index : Storing index (each entries_of (renumbered log (path_commits (commits_in cs) (left_says rest)))) es₀ we es
-  pub is_left_lem : is_left rest
+  pub is_left : is_left rest
   pub count : k ≡ length (path_commits (commits_in cs) (left_says rest))
   pub others : all (other_log log) (left_says rest) ≡ true
 
@@ -104,7 +104,7 @@ module _ (log : Id) (wc : Table Commit) (wk : Table Checkpoint) (we : Table Entr
             in_commits = subst (λ (l : List Commit). Storing commits (renumbered log l) cs₀ wc u) (sym same) (storing_many commits (x ∷ []) after cs₀ wc cs c_next u du);
             in_checkpoints = subst (λ (l : List Commit). Storing checkpoints (each checkpoints_of (renumbered log l)) ks₀ wk v) (sym same) (storing_many checkpoints (checkpoints_of x) (each checkpoints_of after) ks₀ wk ks k_next v dv);
             in_index = subst (λ (l : List Commit). Storing index (each entries_of (renumbered log l)) es₀ we w) (sym same) (storing_many index (entries_of x) (each entries_of after) es₀ we es e_next w dw);
-            is_left_lem = meets.is_left;
+            is_left = meets.is_left;
             count = omega (arith, is_next, ej, ap (length {A = Commit}) same);
             others = o;
           }
@@ -146,7 +146,7 @@ module _ (cs ks es : List ℕ) (left : Left) (log : Id) where
       in_commits = storing_start commits copies cs copy_forms good.0 (and_fst (fits end_commits) (fits end_checkpoints) two);
       in_checkpoints = storing_start checkpoints (each checkpoints_of copies) ks (each_forms checkpoints_of commit_form checkpoint_form checkpoints_form copies copy_forms) good.1 (and_snd (fits end_commits) (fits end_checkpoints) two);
       in_index = storing_start index (each entries_of copies) es (each_forms entries_of commit_form entry_form entries_form copies copy_forms) good.2 (and_snd (fits end_commits && fits end_checkpoints) (fits end_index) (sym fit_parts ∙ room));
-      is_left_lem = todo_is.0;
+      is_left = todo_is.0;
       count = todo_is.1;
       others = todo_is.2;
     }

@@ -47,7 +47,7 @@ module _ (vs cs ks es ps : List ℕ) (vid : Id) (snap : List ℕ) (count : ℕ) 
   saved : Now vs cs ks es ps vid snap count sid pages out r.code cs' ks' es' ps' out' left → Kept
   saved n = (
     subst (λ (u : Tables). Keeps (tables_in vs cs ks es ps) call u) (sym (is_rule n)) (does_keeps (tables_in vs cs ks es ps) call),
-    (record { of_commits_lem = λ f. n.commits.again; of_checkpoints_lem = λ f. n.checkpoints.again; of_index_lem = λ f. n.index.again }, (λ f. n.presence.again, exact)),
+    (record { of_commits = λ f. n.commits.again; of_checkpoints = λ f. n.checkpoints.again; of_index = λ f. n.index.again }, (λ f. n.presence.again, exact)),
   )
     where
       exact : StaysExact cs es cs' es'
@@ -60,7 +60,7 @@ module _ (vs cs ks es ps : List ℕ) (vid : Id) (snap : List ℕ) (count : ℕ) 
   same a b d f = (
     subst (λ (u : Tables). Keeps (tables_in vs cs ks es ps) call u) (λ i. tables_in vs (sym a i) (sym b i) (sym d i) (sym f i)) (same_keeps (tables_in vs cs ks es ps) call),
     (
-      record { of_commits_lem = λ h. ap commits_ok a ∙ h; of_checkpoints_lem = λ h. ap checkpoints_ok b ∙ h; of_index_lem = λ h. ap index_ok d ∙ h },
+      record { of_commits = λ h. ap commits_ok a ∙ h; of_checkpoints = λ h. ap checkpoints_ok b ∙ h; of_index = λ h. ap index_ok d ∙ h },
       (λ h. ap presence_ok f ∙ h, λ h. subst (λ (x : List ℕ). Exact (commits_in cs') (index_in x)) (sym d) (subst (λ (x : List ℕ). Exact (commits_in x) (index_in es)) (sym a) h)),
     ),
   )

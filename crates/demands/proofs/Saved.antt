@@ -124,7 +124,7 @@ module _ (vs cs ks es ps : List ℕ) (vid : Id) (snap : List ℕ) (count : ℕ) 
 
   pub saved_found : Finds c taken found out'
   saved_found = record {
-    snapshot_given_lem = ap (λ (x : Reply × List ℕ). x.0) snapshot_is;
+    snapshot_given = ap (λ (x : Reply × List ℕ). x.0) snapshot_is;
     commit_given = ap (λ (x : Reply × List ℕ). x.0) commit_is;
-    commit_bytes_lem = ap (λ (x : Reply × List ℕ). x.1) commit_is;
+    commit_bytes = ap (λ (x : Reply × List ℕ). x.1) commit_is;
   }

@@ -18,12 +18,12 @@ use Rattle.walkcalls.specs.Items.{item_bytes}
 -- the lent bytes of commits, index, snapshot and place for the answer, and the page
 pub record Supposed (commits index snapshot out : List ℕ) (page : ℕ) : Type 0 where
   -- both tables are formed, and the index lists exactly the pages of the stored commits
-  pub commits_formed_lem : commits_ok commits ≡ true
-  pub index_formed_lem : index_ok index ≡ true
+  pub commits_formed : commits_ok commits ≡ true
+  pub index_formed : index_ok index ≡ true
   pub exact : Exact (commits_in commits) (index_in index)
   -- the snapshot is valid: one that no call refuses by 1, 2 or 3
   pub snapshot_valid : valid (snapshot_in snapshot) ≡ true
-  pub snapshot_formed_lem : snapshot_formed snapshot ≡ true
+  pub snapshot_formed : snapshot_formed snapshot ≡ true
   -- the page is not 0, and the place has a commit's size
   pub page_counts : counts page ≡ true
   pub place : length out ≡ commit_bytes.size

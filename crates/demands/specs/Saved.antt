@@ -31,9 +31,9 @@ pub record Written (volumes commits index : List ℕ) (vid : Id) (pages : List �
 
 -- the snapshot is taken, and the search finds the commit c
 pub record Finds (c : Commit) (taken found : Reply) (left : List ℕ) : Type 0 where
-  pub snapshot_given_lem : taken ≡ given
+  pub snapshot_given : taken ≡ given
   pub commit_given : found ≡ given
-  pub commit_bytes_lem : left ≡ commit_bytes.spell c
+  pub commit_bytes : left ≡ commit_bytes.spell c
 
 -- a save that answers 0, a snapshot and a search for a page that was saved: it is found, in the new commit
 abbrev pub SavedIsFound : (volumes commits index : List ℕ) (vid : Id) (count : ℕ) (sid : Id) (pages : List ℕ) (page : ℕ) (out : List ℕ) (saved taken found : Reply) (left : List ℕ) → Type 0

@@ -10,7 +10,7 @@ ghost use Rattle.pageset.specs.Sets.{rising, normal_form};
 ghost use Rattle.rules.specs.Lists.{is_some};
 ghost use Rattle.rules.specs.Pages.{is_empty};
 ghost use Rattle.rules.specs.Write.{pages_of};
-ghost use Rattle.rules.specs.Walk.{gift as giftOf};
+ghost use Rattle.rules.specs.Walk.{gift as gift_of};
 ghost use Rattle.layout.specs.Values.{set_bytes};
 ghost use Rattle.layout.specs.Tables.{commits_ok};
 ghost use Rattle.setbytes.specs.Laid.{windows_at, set_laid};
@@ -170,8 +170,8 @@ fn make_gift(
 ) -> bool
     requires commits_value { (commits_ok commits.now ≡ true) × Inside commits.now (places_in path.runs) × (i < count_of commits.now) × (k ≤ length (places_in path.runs)) }
     requires known { Known (held_by (before k (commits_at commits.now (places_in path.runs)))) tags.old masks.old marks.old × (length left.old ≡ 32) }
-    ensures value { result ≡ not (is_empty (giftOf count.0 (before k (commits_at commits.now (places_in path.runs))) (commit_at commits.now i))) }
-    ensures left_after { given (pages_of (commit_at commits.now i).segment) left.new ≡ giftOf count.0 (before k (commits_at commits.now (places_in path.runs))) (commit_at commits.now i) }
+    ensures value { result ≡ not (is_empty (gift_of count.0 (before k (commits_at commits.now (places_in path.runs))) (commit_at commits.now i))) }
+    ensures left_after { given (pages_of (commit_at commits.now i).segment) left.new ≡ gift_of count.0 (before k (commits_at commits.now (places_in path.runs))) (commit_at commits.now i) }
     ensures known_2 { Known (held_by (commit_at commits.now i ∷ before k (commits_at commits.now (places_in path.runs)))) tags.new masks.new marks.new }
 {
     if !has_segment_at(commits, i) {

@@ -17,20 +17,20 @@ use Rattle.keeping.proofs.Recovered.{recover_ends}
 
 -- g and h have the same rooms
 pub record SameRooms (g h : Logs) : Type 0 where
-  pub of_commits_lem : g.commits.room ≡ h.commits.room
-  pub of_checkpoints_lem : g.checkpoints.room ≡ h.checkpoints.room
-  pub of_index_lem : g.index.room ≡ h.index.room
+  pub of_commits : g.commits.room ≡ h.commits.room
+  pub of_checkpoints : g.checkpoints.room ≡ h.checkpoints.room
+  pub of_index : g.index.room ≡ h.index.room
 
 pub same_logs : (g h : Logs) → g ≡ h → SameRooms g h
-same_logs g h e = record { of_commits_lem = ap (λ (x : Logs). x.commits.room) e; of_checkpoints_lem = ap (λ (x : Logs). x.checkpoints.room) e; of_index_lem = ap (λ (x : Logs). x.index.room) e }
+same_logs g h e = record { of_commits = ap (λ (x : Logs). x.commits.room) e; of_checkpoints = ap (λ (x : Logs). x.checkpoints.room) e; of_index = ap (λ (x : Logs). x.index.room) e }
 
 through : (f g h : Logs) → SameRooms f g → SameRooms g h → SameRooms f h
-through f g h p q = record { of_commits_lem = p.of_commits ∙ q.of_commits; of_checkpoints_lem = p.of_checkpoints ∙ q.of_checkpoints; of_index_lem = p.of_index ∙ q.of_index }
+through f g h p q = record { of_commits = p.of_commits ∙ q.of_commits; of_checkpoints = p.of_checkpoints ∙ q.of_checkpoints; of_index = p.of_index ∙ q.of_index }
 
 -- a commit written, and several
 write_rooms : (g : Logs) (c : Commit) → SameRooms (write g c) g
 unfolding write
-write_rooms g c = record { of_commits_lem = refl; of_checkpoints_lem = refl; of_index_lem = refl }
+write_rooms g c = record { of_commits = refl; of_checkpoints = refl; of_index = refl }
 
 write_all_rooms : (g : Logs) (cs : List Commit) → SameRooms (write_all g cs) g
 unfolding write_all

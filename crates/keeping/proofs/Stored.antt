@@ -83,13 +83,13 @@ module _ (vs : Table Volume) (g : Logs) where
   logs_of w = search (and_fst, and_snd)
 
 record ThreeFormed (g : Logs) : Type 0 where
-  of_commits_lem : commits_formed g.commits ≡ true
-  of_checkpoints_lem : checkpoints_formed g.checkpoints ≡ true
-  of_index_lem : index_formed g.index ≡ true
+  of_commits : commits_formed g.commits ≡ true
+  of_checkpoints : checkpoints_formed g.checkpoints ≡ true
+  of_index : index_formed g.index ≡ true
 
 three : (g : Logs) → logs_formed g ≡ true → ThreeFormed g
 unfolding logs_formed
-three g f = record { of_commits_lem = search (and_fst, and_snd); of_checkpoints_lem = search (and_fst, and_snd); of_index_lem = search (and_fst, and_snd) }
+three g f = record { of_commits = search (and_fst, and_snd); of_checkpoints = search (and_fst, and_snd); of_index = search (and_fst, and_snd) }
 
 -- ---- the three tables of commits: their bytes before and after the call, as its contract has them
 
@@ -105,7 +105,7 @@ module _ {A : Type 0} (a : Answer A) (logs : A → Logs) (cs ks es cs' ks' es' :
       let x = after_refused Layouts.commits a _ cs cs' of_commits n q in
       let y = after_refused Layouts.checkpoints a _ ks ks' of_checkpoints n q in
       let z = after_refused Layouts.index a _ es es' of_index n q in
-      record { holds = λ i. logs_in (x i) (y i) (z i); formed_still = record { of_commits_lem = stays_same commits_ok cs cs' x; of_checkpoints_lem = stays_same checkpoints_ok ks ks' y; of_index_lem = stays_same index_ok es es' z } }
+      record { holds = λ i. logs_in (x i) (y i) (z i); formed_still = record { of_commits = stays_same commits_ok cs cs' x; of_checkpoints = stays_same checkpoints_ok ks ks' y; of_index = stays_same index_ok es es' z } }
 
   logs_done : (x : A) → a ≡ done x → logs_ok cs ks es ≡ true → logs_formed (logs x) ≡ true → SameRooms (logs x) (logs_in cs ks es) → LogsLeft (logs x)
   logs_done x q ok f room =
@@ -117,7 +117,7 @@ module _ {A : Type 0} (a : Answer A) (logs : A → Logs) (cs ks es cs' ks' es' :
       let p = u.table in
       let r = v.table in
       let s = w.table in
-      record { holds = λ i. record { commits = p i; checkpoints = r i; index = s i }; formed_still = record { of_commits_lem = λ h. u.again; of_checkpoints_lem = λ h. v.again; of_index_lem = λ h. w.again } }
+      record { holds = λ i. record { commits = p i; checkpoints = r i; index = s i }; formed_still = record { of_commits = λ h. u.again; of_checkpoints = λ h. v.again; of_index = λ h. w.again } }
 
   -- the call is lent these alone
   module _ (call : Change) where

@@ -14,9 +14,9 @@ StaysFormed ok was left = ok was ≡ true → ok left ≡ true
 
 -- the three tables of commits
 pub record LogsStayFormed (commits checkpoints index commits' checkpoints' index' : List ℕ) : Type 0 where
-  pub of_commits_lem : StaysFormed commits_ok commits commits'
-  pub of_checkpoints_lem : StaysFormed checkpoints_ok checkpoints checkpoints'
-  pub of_index_lem : StaysFormed index_ok index index'
+  pub of_commits : StaysFormed commits_ok commits commits'
+  pub of_checkpoints : StaysFormed checkpoints_ok checkpoints checkpoints'
+  pub of_index : StaysFormed index_ok index index'
 
 -- the index stays exact
 abbrev pub StaysExact : (commits index commits' index' : List ℕ) → Type 0

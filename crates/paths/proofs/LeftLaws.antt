@@ -206,7 +206,7 @@ module _ (t : List ℕ) (ok : commits_ok t ≡ true) (l : Left) (k : length l.pa
             ∙ path_next (commits_in t) (range_says (get_or l.path i d)) (map range_says (drop (i + 1) (take l.len l.path))) (commit_at t from) (stretch (from + 1) to (commits_in t).rows) (formed_up commits t ok) lsn_counts (run_rows t (range_says (get_or l.path i d)) from to run has_run)
             ∙ ap (λ (ps : List Range). commit_at t from ∷ path_commits (commits_in t) ps) (sym (lowered_left l.path k l.len i (commit_at t from).lsn d (next_at i e) is.1));
         left_is = ap₂ (λ (r : LogRange) (n : ℕ). record { path = lowered_at r i (commit_at t from).lsn l.path; at = n; len = l.len }) (get_d_any l.path i d no_range (omega (arith, k, is, next_at i e))) e;
-        is_left_lem = (omega (arith, next_at i e), is.1);
+        is_left = (omega (arith, next_at i e), is.1);
         others = λ log a. ap (all (other_log log)) (lowered_left l.path k l.len i (commit_at t from).lsn d (next_at i e) is.1) ∙ low_other log (range_says (get_or l.path i d)) (commit_at t from).lsn (map range_says (drop (i + 1) (take l.len l.path))) ∙ ap (all (other_log log)) (sym on) ∙ all_drop (other_log log) (leading (commits_in t) (left_says l)) (left_says l) a;
       }
 

@@ -51,5 +51,5 @@ pub record Meets (t : List ℕ) (l : Left) (m : Met) : Type 0 where
   pub inside : m.row < count_of t
   pub here : path_commits (commits_in t) (left_says l) ≡ commit_at t m.row ∷ path_commits (commits_in t) (left_says m.left)
   pub left_is : m.left ≡ record { path = lowered_at (slice_index_or l.path m.left.at no_range) m.left.at (commit_at t m.row).lsn l.path; at = l.at + leading (commits_in t) (left_says l); len = l.len }
-  pub is_left_lem : is_left m.left
+  pub is_left : is_left m.left
   pub others : (log : Id) → all (other_log log) (left_says l) ≡ true → all (other_log log) (left_says m.left) ≡ true

@@ -9,7 +9,7 @@ ghost use Rattle.basics.specs.Orders.{bytes};
 ghost use Rattle.rules.specs.Records.{Volume as RulesVolume, Pending, volume_key};
 ghost use Rattle.rules.specs.Tables.{Table, fits, store, get_commit};
 ghost use Rattle.rules.specs.Write.{Logs, write};
-ghost use Rattle.rules.specs.Push.{is_hash, same_there, pushed_volume, recover as recoverRule};
+ghost use Rattle.rules.specs.Push.{is_hash, same_there, pushed_volume, recover as recover_rule};
 ghost use Rattle.table.specs.Table.{count_of};
 ghost use Rattle.volume.specs.Volumes.{volume_says};
 ghost use Rattle.layout.specs.Records.{volume_bytes, commit_bytes, checkpoint_bytes, entry_bytes};
@@ -274,7 +274,7 @@ fn recover_plan(
     vid: VolumeId,
 ) -> Recovery
     requires { push_ok volumes.now commits.now checkpoints.now index.now ≡ true }
-    ensures { Recovers volumes.now commits.now checkpoints.now index.now (recoverRule (volumes_in volumes.now) (logs_in commits.now checkpoints.now index.now) vid) result }
+    ensures { Recovers volumes.now commits.now checkpoints.now index.now (recover_rule (volumes_in volumes.now) (logs_in commits.now checkpoints.now index.now) vid) result }
 {
     let Spot::At(i) = find_volume(volumes, vid) else {
         return Recovery::Left(4);
@@ -292,11 +292,11 @@ pub fn recover(
     index: &mut [u8],
     vid: VolumeId,
 ) -> u32
-    ensures value { result ≡ number_of (lent (push_ok volumes.old commits.old checkpoints.old index.old) (done (recoverRule (volumes_in volumes.old) (logs_in commits.old checkpoints.old index.old) vid))) }
-    ensures volumes_after { volumes.new ≡ after volume_bytes (λ (r : ℕ × Table RulesVolume × Logs). r.1) volumes.old (lent (push_ok volumes.old commits.old checkpoints.old index.old) (done (recoverRule (volumes_in volumes.old) (logs_in commits.old checkpoints.old index.old) vid))) }
-    ensures commits_after { commits.new ≡ after commit_bytes (λ (r : ℕ × Table RulesVolume × Logs). r.2.commits) commits.old (lent (push_ok volumes.old commits.old checkpoints.old index.old) (done (recoverRule (volumes_in volumes.old) (logs_in commits.old checkpoints.old index.old) vid))) }
-    ensures checkpoints_after { checkpoints.new ≡ after checkpoint_bytes (λ (r : ℕ × Table RulesVolume × Logs). r.2.checkpoints) checkpoints.old (lent (push_ok volumes.old commits.old checkpoints.old index.old) (done (recoverRule (volumes_in volumes.old) (logs_in commits.old checkpoints.old index.old) vid))) }
-    ensures index_after { index.new ≡ after entry_bytes (λ (r : ℕ × Table RulesVolume × Logs). r.2.index) index.old (lent (push_ok volumes.old commits.old checkpoints.old index.old) (done (recoverRule (volumes_in volumes.old) (logs_in commits.old checkpoints.old index.old) vid))) }
+    ensures value { result ≡ number_of (lent (push_ok volumes.old commits.old checkpoints.old index.old) (done (recover_rule (volumes_in volumes.old) (logs_in commits.old checkpoints.old index.old) vid))) }
+    ensures volumes_after { volumes.new ≡ after volume_bytes (λ (r : ℕ × Table RulesVolume × Logs). r.1) volumes.old (lent (push_ok volumes.old commits.old checkpoints.old index.old) (done (recover_rule (volumes_in volumes.old) (logs_in commits.old checkpoints.old index.old) vid))) }
+    ensures commits_after { commits.new ≡ after commit_bytes (λ (r : ℕ × Table RulesVolume × Logs). r.2.commits) commits.old (lent (push_ok volumes.old commits.old checkpoints.old index.old) (done (recover_rule (volumes_in volumes.old) (logs_in commits.old checkpoints.old index.old) vid))) }
+    ensures checkpoints_after { checkpoints.new ≡ after checkpoint_bytes (λ (r : ℕ × Table RulesVolume × Logs). r.2.checkpoints) checkpoints.old (lent (push_ok volumes.old commits.old checkpoints.old index.old) (done (recover_rule (volumes_in volumes.old) (logs_in commits.old checkpoints.old index.old) vid))) }
+    ensures index_after { index.new ≡ after entry_bytes (λ (r : ℕ × Table RulesVolume × Logs). r.2.index) index.old (lent (push_ok volumes.old commits.old checkpoints.old index.old) (done (recover_rule (volumes_in volumes.old) (logs_in commits.old checkpoints.old index.old) vid))) }
 {
     if !push_formed(volumes, commits, checkpoints, index) {
         return 20;

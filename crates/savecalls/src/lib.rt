@@ -2,7 +2,7 @@
 // `save` is the call. It answers on every input, 20 first.
 #![tactic(auto)]
 ghost use Rattle.std.specs.Prelude.{◌≡◌, ◌≤◌, true, false, length};
-ghost use Rattle.basics.specs.Answers.{refused as refusedWith, code};
+ghost use Rattle.basics.specs.Answers.{refused as refused_with, code};
 ghost use Rattle.pageset.specs.Sets.{shown, normal};
 ghost use Rattle.rules.specs.Forms.{lsn_form, volume_form};
 ghost use Rattle.rules.specs.Lists.{any};

@@ -5,11 +5,11 @@ ghost use Rattle.std.proofs.Math.Option.{some};
 ghost use Rattle.basics.specs.Answers.{code};
 ghost use Rattle.basics.specs.Numbers.{counts};
 ghost use Rattle.rules.specs.Lists.{is_none};
-ghost use Rattle.rules.specs.Push.{is_before, prepare as prepareRule};
+ghost use Rattle.rules.specs.Push.{is_before, prepare as prepare_rule};
 ghost use Rattle.rules.specs.Forms.{lsn_form, volume_form};
 ghost use Rattle.rules.specs.Tables.{latest_lsn};
 ghost use Rattle.rules.specs.Snapshots.{remote_of};
-ghost use Rattle.rules.specs.Sync.{not_older, sync_by, sync as syncRule};
+ghost use Rattle.rules.specs.Sync.{not_older, sync_by, sync as sync_rule};
 ghost use Rattle.volume.specs.Volumes.{maybe_lsn_says, sync_says, volume_says};
 ghost use Rattle.layout.specs.Records.{volume_bytes};
 ghost use Rattle.layout.specs.Tables.{volumes_in, volumes_ok, commits_in, commits_ok};
@@ -84,8 +84,8 @@ fn pull_of(commits: &[u8], v: Volume) -> Pull
 
 // A volume's sync point moved to the remote's latest: 20, 4, 16, 8.
 pub fn sync(volumes: &mut [u8], commits: &[u8], vid: VolumeId) -> u32
-    ensures value { result ≡ code (lent (volumes_ok volumes.old && commits_ok commits.now) (syncRule (volumes_in volumes.old) (commits_in commits.now) vid)) }
-    ensures volumes_after { volumes.new ≡ after volume_bytes (λ t. t) volumes.old (lent (volumes_ok volumes.old && commits_ok commits.now) (syncRule (volumes_in volumes.old) (commits_in commits.now) vid)) }
+    ensures value { result ≡ code (lent (volumes_ok volumes.old && commits_ok commits.now) (sync_rule (volumes_in volumes.old) (commits_in commits.now) vid)) }
+    ensures volumes_after { volumes.new ≡ after volume_bytes (λ t. t) volumes.old (lent (volumes_ok volumes.old && commits_ok commits.now) (sync_rule (volumes_in volumes.old) (commits_in commits.now) vid)) }
 {
     if !volumes_formed(volumes) {
         return 20;
@@ -158,8 +158,8 @@ pub fn prepare(
     commit: Lsn,
     hash: CommitHash,
 ) -> u32
-    ensures value { result ≡ code (lent (volumes_ok volumes.old && commits_ok commits.now) (prepareRule (volumes_in volumes.old) (commits_in commits.now) vid (record { local = local.0; commit = commit.0; hash = hash }))) }
-    ensures volumes_after { volumes.new ≡ after volume_bytes (λ t. t) volumes.old (lent (volumes_ok volumes.old && commits_ok commits.now) (prepareRule (volumes_in volumes.old) (commits_in commits.now) vid (record { local = local.0; commit = commit.0; hash = hash }))) }
+    ensures value { result ≡ code (lent (volumes_ok volumes.old && commits_ok commits.now) (prepare_rule (volumes_in volumes.old) (commits_in commits.now) vid (record { local = local.0; commit = commit.0; hash = hash }))) }
+    ensures volumes_after { volumes.new ≡ after volume_bytes (λ t. t) volumes.old (lent (volumes_ok volumes.old && commits_ok commits.now) (prepare_rule (volumes_in volumes.old) (commits_in commits.now) vid (record { local = local.0; commit = commit.0; hash = hash }))) }
 {
     if !volumes_formed(volumes) {
         return 20;

@@ -2,12 +2,12 @@
 #![tactic(auto)]
 ghost use Rattle.std.specs.Prelude.{◌≡◌, ◌&&◌};
 ghost use Rattle.pagecalls.specs.Says.{yes_says};
-ghost use Rattle.rules.specs.Snapshots.{snapshot as snapshotRule};
+ghost use Rattle.rules.specs.Snapshots.{snapshot as snapshot_rule};
 ghost use Rattle.layout.specs.Tables.{volumes_in, volumes_ok, commits_in, commits_ok};
 ghost use Rattle.layout.specs.Values.{snapshot_bytes};
 ghost use Rattle.layout.specs.Lent.{lent};
 ghost use Rattle.arguments.specs.Replies.{value, placed};
-ghost use Rattle.viewargs.specs.Views.{latest_in, unformed as unformedAnswer};
+ghost use Rattle.viewargs.specs.Views.{latest_in, unformed as unformed_answer};
 
 use arguments::Reply;
 use arguments::snapshots::{put_snapshot, snapshot_arg, snapshot_ok};
@@ -17,7 +17,7 @@ use pagecalls::YesAnswer;
 
 // The snapshot of the volume of an identifier, to `out`: 20, 3 for a place of another length, 4.
 pub fn snapshot(volumes: &[u8], commits: &[u8], vid: VolumeId, out: &mut [u8]) -> Reply
-    ensures { (result, out.new) ≡ value snapshot_bytes.spell out.old (lent (volumes_ok volumes.now && commits_ok commits.now) (placed snapshot_bytes.size out.old (snapshotRule (volumes_in volumes.now) (commits_in commits.now) vid))) }
+    ensures { (result, out.new) ≡ value snapshot_bytes.spell out.old (lent (volumes_ok volumes.now && commits_ok commits.now) (placed snapshot_bytes.size out.old (snapshot_rule (volumes_in volumes.now) (commits_in commits.now) vid))) }
 {
     let a = viewcalls::snapshot(volumes, commits, vid);
     if a.code == 20 {
@@ -31,7 +31,7 @@ pub fn snapshot(volumes: &[u8], commits: &[u8], vid: VolumeId, out: &mut [u8]) -
 
 // The answer of the latest check where the bytes of the snapshot are not in form: 20, 1 and 2 stay, all else is 3.
 fn unformed(a: YesAnswer) -> YesAnswer
-    ensures { yes_says result ≡ unformedAnswer (yes_says a) }
+    ensures { yes_says result ≡ unformed_answer (yes_says a) }
 {
     match a {
         YesAnswer::Refused(n) => YesAnswer::Refused(if n == 4 { 3 } else { n }),

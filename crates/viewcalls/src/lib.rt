@@ -5,7 +5,7 @@ ghost use Rattle.basics.specs.Answers.{refused};
 ghost use Rattle.pagecalls.specs.Says.{yes_says};
 ghost use Rattle.rules.specs.Lists.{all, any, is_some, is_none};
 ghost use Rattle.rules.specs.Tables.{latest_lsn};
-ghost use Rattle.rules.specs.Snapshots.{watermark_of, remote_of, below, after, remote_snapshot, snapshot_of, snapshot as snapshotRule, is_at, is_remote, same_answer, is_latest};
+ghost use Rattle.rules.specs.Snapshots.{watermark_of, remote_of, below, after, remote_snapshot, snapshot_of, snapshot as snapshot_rule, is_at, is_remote, same_answer, is_latest};
 ghost use Rattle.volume.specs.Volumes.{maybe_lsn_says, sync_says, volume_says};
 ghost use Rattle.volume.specs.Snapshots.{range_says, snapshot_says, laid, laid_answer};
 ghost use Rattle.layout.specs.Tables.{volumes_in, volumes_ok, commits_in, commits_ok};
@@ -166,7 +166,7 @@ fn no_snapshot(code: u32) -> SnapshotAnswer
 
 // The snapshot of the volume of an identifier: 20, 4.
 pub fn snapshot(volumes: &[u8], commits: &[u8], vid: VolumeId) -> SnapshotAnswer
-    ensures { result ≡ laid_answer (lent (volumes_ok volumes.now && commits_ok commits.now) (snapshotRule (volumes_in volumes.now) (commits_in commits.now) vid)) }
+    ensures { result ≡ laid_answer (lent (volumes_ok volumes.now && commits_ok commits.now) (snapshot_rule (volumes_in volumes.now) (commits_in commits.now) vid)) }
 {
     if !volumes_formed(volumes) {
         return no_snapshot(20);

@@ -1,6 +1,6 @@
 // Snapshots: a path of at most 8 log ranges, and a page count.
 ghost use Rattle.std.specs.Prelude.{◌≡◌, ◌<◌, [], take, drop};
-ghost use Rattle.basics.specs.Answers.{refused as refusedRule};
+ghost use Rattle.basics.specs.Answers.{refused as refused_rule};
 ghost use Rattle.rules.specs.Lists.{all};
 ghost use Rattle.rules.specs.Arguments.{range_lsns, range_order, snapshot_lsns, snapshot_order, snapshot_new};
 ghost use Rattle.volume.specs.Snapshots.{range_says, snapshot_says, no_range, is_zero_range, passes_test, in_form, laid, laid_answer, zero_code, with_range, appended, head_of, laid_head, is_empty_path};
@@ -250,7 +250,7 @@ impl Snapshot {
 
 // A refusal: its number, and the empty snapshot.
 fn refused(code: u32) -> SnapshotAnswer
-    ensures { result ≡ laid_answer (refusedRule code) }
+    ensures { result ≡ laid_answer (refused_rule code) }
 {
     let snapshot = Snapshot::empty(PageCount(0));
     SnapshotAnswer {

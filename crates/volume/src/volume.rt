@@ -3,7 +3,7 @@ ghost use Rattle.std.specs.Prelude.{◌≡◌};
 ghost use Rattle.std.proofs.Math.Option.{none, some};
 ghost use Rattle.basics.specs.Numbers.{counts};
 ghost use Rattle.rules.specs.Lists.{given};
-ghost use Rattle.rules.specs.Sync.{changed, changes as changesRule};
+ghost use Rattle.rules.specs.Sync.{changed, changes as changes_rule};
 ghost use Rattle.volume.specs.Volumes.{maybe_lsn_says, changes_says, hash_beside};
 
 use basics::commit_hash;
@@ -176,7 +176,7 @@ fn changes_above(base: Lsn, head: MaybeLsn) -> ChangesAnswer
 
 // The LSNs above the base up to the head, or nothing: 1 for LSN 0, 16 for a base without a head.
 pub fn changes(base: MaybeLsn, head: MaybeLsn) -> ChangesAnswer
-    ensures { changes_says result ≡ changesRule (maybe_lsn_says base) (maybe_lsn_says head) }
+    ensures { changes_says result ≡ changes_rule (maybe_lsn_says base) (maybe_lsn_says head) }
 {
     if !counts_or_missing(base) {
         return ChangesAnswer::Refused(1);

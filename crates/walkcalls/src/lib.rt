@@ -6,7 +6,7 @@ ghost use Rattle.octets.specs.Flat.{flat};
 ghost use Rattle.pageset.specs.Sets.{normal_form};
 ghost use Rattle.rules.specs.Lists.{is_some};
 ghost use Rattle.rules.specs.Write.{pages_of};
-ghost use Rattle.rules.specs.Walk.{walk as walkRule};
+ghost use Rattle.rules.specs.Walk.{walk as walk_rule};
 ghost use Rattle.table.specs.Table.{count_of};
 ghost use Rattle.layout.specs.Tables.{commits_in, commits_ok};
 ghost use Rattle.layout.specs.Lent.{lent};
@@ -108,7 +108,7 @@ fn put_items(commits: &[u8], path: Path, count: PageCount, list: &mut [u8]) -> u
 
 // The walk of a snapshot: ranges in path order, LSN falling, each commit with the pages that no earlier one took: 20, 1, 2, 3, 19.
 pub fn walk(commits: &[u8], snapshot: &[u8], list: &mut [u8], items: &mut u32) -> Reply
-    ensures { (result, (list.new, items.new)) ≡ list_left item_bytes list.old items.old (lent (commits_ok commits.now) (on_snapshot snapshot.now (walkRule (commits_in commits.now) (slots_in item_bytes list.old)))) }
+    ensures { (result, (list.new, items.new)) ≡ list_left item_bytes list.old items.old (lent (commits_ok commits.now) (on_snapshot snapshot.now (walk_rule (commits_in commits.now) (slots_in item_bytes list.old)))) }
 {
     if !commits_formed(commits) {
         return Reply { code: 20, found: 0 };

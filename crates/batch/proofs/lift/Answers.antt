@@ -18,7 +18,7 @@ overflow_add-q-2 c =
 pub store_all-requires : goal.store_all-requires
 store_all-requires c =
     let rows : let a = c.args in ((a.q + a.d - 1) * a.stride + a.stride ≡ (a.q + a.d) * a.stride) × ((a.i - a.q) * a.stride + (a.q + a.d) * a.stride ≡ (a.i + a.d) * a.stride) = lift_rows c.args.stride c.args.q c.args.i c.args.d c.requires.0 c.requires.1 in
-    omega (arith, rows, c.move_records.auto.0)
+    omega (arith, rows, c.move_records.auto.t)
 
 pub returns : goal.returns
 returns c =

@@ -36,7 +36,7 @@ put-requires c =
     let h = puts_hold a.stride a.klen a.n a.batch.now a.t.now p.stride_nonzero.0 p.stride_nonzero.2 p.t_value p.t_value_2 l.i l.invariant.0 l.t l.invariant.3 in
     let f = puts_fit a.stride a.klen a.n a.batch.now a.t.now p.stride_nonzero.0 p.stride_nonzero.2 p.t_value p.t_value_2 l.i c.loop-i-test.true l.from l.invariant.1 l.t l.invariant.3 in
     let whole = rw (item a.stride l.from a.batch.now) ((p.stride_nonzero.0, p.stride_nonzero.1, length_part l.from a.stride a.batch.now (room)), (h.well, f)) in
-    record { stride_nonzero = whole.0; t_value = whole.1; t_value_2 = whole.2 }
+    record { stride_nonzero = whole.0; t_value = whole.1.0; t_value_2 = whole.1.1 }
 
 pub overflow_add-i : goal.overflow_add-i
 overflow_add-i c = omega arith
@@ -52,7 +52,7 @@ loop-i-preserved c =
     let e = rw (item a.stride l.from a.batch.now) at c.put.ensures in (
       omega arith,
       omega arith,
-      omega (arith, c.put.auto.0),
+      omega (arith, c.put.auto.t),
       puts_turn a.stride a.klen a.n a.batch.now a.t.now p.stride_nonzero.0 p.stride_nonzero.2 p.t_value p.t_value_2 l.i c.loop-i-test.true l.from l.invariant.1 l.t l.invariant.3 _ e,
     )
 

@@ -43,7 +43,7 @@ pub store16-requires : goal.store16-requires
 store16-requires c =
     let sized : let a = c.args in (a.i * a.stride + (a.j - a.i) * a.stride ≡ a.j * a.stride) × (a.j * a.stride + (c.count-n.result - a.j) * a.stride + 2 ≤ length a.t.now) = let a = c.args in
     run_size a.stride a.t.now a.i a.j c.requires.0 c.requires.1 c.requires.2 c.count-n.result c.count-n.ensures.0 in
-    omega (arith, sized, c.move_down.auto.0)
+    omega (arith, sized, c.move_down.auto.s)
 
 pub returns : goal.returns
 returns c =

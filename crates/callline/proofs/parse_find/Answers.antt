@@ -4,7 +4,7 @@ use Rattle.callline.proofs.LineLaws.{found}
 use Rattle.callline.proofs.parse_find.Goals as goal
 
 pub returns-then-not-is_over : goal.returns-then-not-is_over
-returns-then-not-is_over c = (let line = c.args.line.now in (found line c.args.op c.decimal-slot.result.next c.decimal-page.result.next c.decimal-slot.result.value c.decimal-page.result.value c.decimal-slot.ensures.result_value c.decimal-page.ensures.result_value).1 (sym c.is_over.ensures ∙ c.if-not-is_over.true), tt)
+returns-then-not-is_over c = record { result_value = let line = c.args.line.now in (found line c.args.op c.decimal-slot.result.next c.decimal-page.result.next c.decimal-slot.result.value c.decimal-page.result.value c.decimal-slot.ensures.result_value c.decimal-page.ensures.result_value).1 (sym c.is_over.ensures ∙ c.if-not-is_over.true); placed = tt }
 
 pub returns : goal.returns
 returns c = record { result_value = let line = c.args.line.now in (found line c.args.op c.decimal-slot.result.next c.decimal-page.result.next c.decimal-slot.result.value c.decimal-page.result.value c.decimal-slot.ensures.result_value c.decimal-page.ensures.result_value).0 (sym c.is_over.ensures ∙ c.if-not-is_over.false); placed = c.decimal-slot.ensures.value_le_limit }

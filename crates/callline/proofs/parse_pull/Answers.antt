@@ -4,7 +4,7 @@ use Rattle.callline.proofs.LineLaws.{pulled}
 use Rattle.callline.proofs.parse_pull.Goals as goal
 
 pub returns-then-not-is_over : goal.returns-then-not-is_over
-returns-then-not-is_over c = (let line = c.args.line.now in (pulled line c.args.op c.identifier-vid.result.next c.identifier-vid.result.value c.identifier-vid.ensures.result_value).1 (sym c.is_over.ensures ∙ c.if-not-is_over.true), tt)
+returns-then-not-is_over c = record { result_value = let line = c.args.line.now in (pulled line c.args.op c.identifier-vid.result.next c.identifier-vid.result.value c.identifier-vid.ensures.result_value).1 (sym c.is_over.ensures ∙ c.if-not-is_over.true); placed = tt }
 
 pub returns : goal.returns
 returns c = record { result_value = let line = c.args.line.now in (pulled line c.args.op c.identifier-vid.result.next c.identifier-vid.result.value c.identifier-vid.ensures.result_value).0 (sym c.is_over.ensures ∙ c.if-not-is_over.false); placed = tt }

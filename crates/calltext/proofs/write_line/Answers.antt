@@ -8,10 +8,11 @@ use Rattle.calltext.proofs.PrintLaws.{printed}
 use Rattle.calltext.proofs.write_line.Goals as goal
 
 pub returns-then-out-lt-LINE_ROOM : goal.returns-then-out-lt-LINE_ROOM
-returns-then-out-lt-LINE_ROOM c = rw (lt-ltb (length c.args.out.now) 96 (omega arith)) (refl, refl)
+returns-then-out-lt-LINE_ROOM c = let whole = rw (lt-ltb (length c.args.out.now) 96 (omega arith)) (refl, refl) in
+    record { out_after = whole.0; value = whole.1 }
 
 pub put_decimal-requires : goal.put_decimal-requires
-put_decimal-requires c = omega (arith, c.if-out-lt-LINE_ROOM.false, c.store_all.auto.0, c.put_decimal-a.auto.0, c.store_all-2.auto.0, c.put_decimal-b.auto.0, c.store_all-3.auto.0, c.put_decimal-a.ensures.1, c.put_decimal-a.ensures.2, c.put_decimal-b.ensures.1, c.put_decimal-b.ensures.2)
+put_decimal-requires c = omega (arith, c.if-out-lt-LINE_ROOM.false, c.store_all.auto.s, c.put_decimal-a.auto.out, c.store_all-2.auto.0, c.put_decimal-b.auto.0, c.store_all-3.auto.0, c.put_decimal-a.ensures.1, c.put_decimal-a.ensures.2, c.put_decimal-b.ensures.1, c.put_decimal-b.ensures.2)
 
 pub returns : goal.returns
 returns c = let a = c.args in

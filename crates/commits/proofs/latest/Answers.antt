@@ -7,9 +7,7 @@ use Rattle.commits.proofs.LookLaws.{latest_end, latest_other, latest_here}
 use Rattle.commits.proofs.latest.Goals as goal
 
 pub from_key-i-requires : goal.from_key-i-requires
-from_key-i-requires c =
-    let n : length c.log_key-key.result ≡ 25 = search rules in
-    ((omega arith, omega arith, omega arith), formed_well commits c.args.t.now c.requires)
+from_key-i-requires c = let n : length c.log_key-key.result ≡ 25 = search rules in record { stride_nonzero = (omega arith, omega arith, omega arith); t_value = formed_well commits c.args.t.now c.requires }
 
 pub count-requires : goal.count-requires
 count-requires c = formed_two commits c.args.t.now c.requires

@@ -17,7 +17,7 @@ loop-k-init c = (
 )
 
 pub next_commit-met-requires : goal.next_commit-met-requires
-next_commit-met-requires c = ((c.loop-k.invariant.6.in_commits.good, c.loop-k.invariant.6.is_left), omega (arith, c.loop-k.invariant.6.count))
+next_commit-met-requires c = record { commits_value = (c.loop-k.invariant.6.in_commits.good, c.loop-k.invariant.6.is_left); nonzero = omega (arith, c.loop-k.invariant.6.count) }
 
 pub copied_row-c-requires : goal.copied_row-c-requires
 copied_row-c-requires c = (c.loop-k.invariant.6.in_commits.good, c.next_commit-met.ensures.inside, omega arith)
@@ -33,9 +33,9 @@ loop-k-smaller c = omega arith
 
 pub loop-k-preserved : goal.loop-k-preserved
 loop-k-preserved c = (
-  omega (arith, c.loop-k.invariant.0, c.write_stored.auto.0),
-  omega (arith, c.loop-k.invariant.1, c.write_stored.auto.1.0),
-  omega (arith, c.loop-k.invariant.2, c.write_stored.auto.1.1),
+  omega (arith, c.loop-k.invariant.0, c.write_stored.auto.commits),
+  omega (arith, c.loop-k.invariant.1, c.write_stored.auto.checkpoints),
+  omega (arith, c.loop-k.invariant.2, c.write_stored.auto.index),
   (λ j. omega (arith, c.type_inv.commits j)),
   (λ j. omega (arith, c.type_inv.checkpoints j)),
   (λ j. omega (arith, c.type_inv.index j)),

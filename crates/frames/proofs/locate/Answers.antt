@@ -14,7 +14,7 @@ contains-requires c =
     ok
 
 pub returns-then-not-contains : goal.returns-then-not-contains
-returns-then-not-contains c = (no_part c.args.s c.args.page.0 (sym c.contains.ensures ∙ c.if-not-contains.true), tt)
+returns-then-not-contains c = record { says = no_part c.args.s c.args.page.0 (sym c.contains.ensures ∙ c.if-not-contains.true); placed = tt }
 
 pub before_first-below-requires : goal.before_first-below-requires
 before_first-below-requires c =
@@ -49,8 +49,7 @@ returns-then-p-f c =
     let long : c.args.s.len ≤ length c.args.s.frames = omega (arith, long_of c.args.s _ c.well_formed.0, ok_few c.args.s c.requires) in
     let d = c.loop-i in
     let m = sym c.contains.ensures ∙ c.if-not-contains.false in
-    let e = sym (run_here c.args.s (long) d.i c.args.page.0 d.start (d.below + 1) (omega arith) c.if-p-f.true) ∙ d.invariant.3 in
-    (ap (place_says c.args.s) e ∙ run_part_lem c.args.s c.args.page.0 _ (ok) m c.before_first-below.ensures (omega arith), omega arith)
+    let e = sym (run_here c.args.s (long) d.i c.args.page.0 d.start (d.below + 1) (omega arith) c.if-p-f.true) ∙ d.invariant.3 in record { says = ap (place_says c.args.s) e ∙ run_part_lem c.args.s c.args.page.0 _ (ok) m c.before_first-below.ensures (omega arith); placed = omega arith }
 
 pub overflow_add-i : goal.overflow_add-i
 overflow_add-i c = omega arith

@@ -29,17 +29,13 @@ pub shape_of-left-in_default : goal.shape_of-left-in_default
 shape_of-left-in_default c = c.loop-i.invariant.2 ∙ sym c.requires.known.1
 
 pub returns-in_default : goal.returns-in_default
-returns-in_default c =
-    let l = c.loop-i in
-    let e = l.invariant.0 ∙ step_end c.args.commits.now (places_in c.args.path.runs) c.args.count.0 l.k (sym c.place_at.ensures ∙ c.in_default.is) in
-    (sym (ap (λ (x : Step × Pages). x.0) e), (gift_in_none c.args.commits.now l.left _, l.invariant.1))
+returns-in_default c = let l = c.loop-i in
+    let e = l.invariant.0 ∙ step_end c.args.commits.now (places_in c.args.path.runs) c.args.count.0 l.k (sym c.place_at.ensures ∙ c.in_default.is) in record { value = sym (ap (λ (x : Step × Pages). x.0) e); gift_in = gift_in_none c.args.commits.now l.left _; known_2 = l.invariant.1 }
 
 pub make_gift-some-requires : goal.make_gift-some-requires
-make_gift-some-requires c =
-    let ps = places_in c.args.path.runs in
+make_gift-some-requires c = let ps = places_in c.args.path.runs in
     let l = c.loop-i in
-    let p = sym c.place_at.ensures ∙ c.in-At.is in
-    ((c.requires.commits_value.0, c.requires.commits_value.1, place_below (count_of c.args.commits.now) l.k c.in-At.i ps c.requires.commits_value.1.below p, omega (arith, place_few l.k c.in-At.i ps p)), (l.invariant.1, l.invariant.2))
+    let p = sym c.place_at.ensures ∙ c.in-At.is in record { commits_value = (c.requires.commits_value.0, c.requires.commits_value.1, place_below (count_of c.args.commits.now) l.k c.in-At.i ps c.requires.commits_value.1.below p, omega (arith, place_few l.k c.in-At.i ps p)); known = (l.invariant.1, l.invariant.2) }
 
 pub overflow_add-k : goal.overflow_add-k
 overflow_add-k c = omega (arith, place_few c.loop-i.k c.in-At.i (places_in c.args.path.runs) (sym c.place_at.ensures ∙ c.in-At.is), c.requires.commits_value.1.few)
@@ -54,15 +50,13 @@ pub shape_of-marks-then-some : goal.shape_of-marks-then-some
 shape_of-marks-then-some c = c.make_gift-some.ensures.known_2.words ∙ sym c.requires.known.0.words
 
 pub returns-then-some : goal.returns-then-some
-returns-then-some c =
-    let t = c.args.commits.now in
+returns-then-some c = let t = c.args.commits.now in
     let ps = places_in c.args.path.runs in
     let l = c.loop-i in
     let i = c.in-At.i in
     let p = sym c.place_at.ensures ∙ c.in-At.is in
     let m = c.make_gift-some.ensures in
-    let e = l.invariant.0 ∙ step_here t ps c.args.count.0 l.k i p (not-true _ (sym m.value ∙ c.if-some.true)) in
-    (sym (ap (λ (x : Step × Pages). x.0) e), (gift_in t i _ _ (m.left_after ∙ sym (ap (λ (x : Step × Pages). x.1) e)), known_next t ps l.k i p _ _ _ m.known_2))
+    let e = l.invariant.0 ∙ step_here t ps c.args.count.0 l.k i p (not-true _ (sym m.value ∙ c.if-some.true)) in record { value = sym (ap (λ (x : Step × Pages). x.0) e); gift_in = gift_in t i _ _ (m.left_after ∙ sym (ap (λ (x : Step × Pages). x.1) e)); known_2 = known_next t ps l.k i p _ _ _ m.known_2 }
 
 pub loop-i-smaller : goal.loop-i-smaller
 loop-i-smaller c = omega (arith, place_few c.loop-i.k c.in-At.i (places_in c.args.path.runs) (sym c.place_at.ensures ∙ c.in-At.is))

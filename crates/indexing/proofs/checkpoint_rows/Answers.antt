@@ -35,7 +35,7 @@ loop-i-preserved c =
     let a = c.args in
     let l = c.loop-i in (
       omega arith,
-      omega (arith, c.store_all.auto.0, l.invariant.1),
+      omega (arith, c.store_all.auto.s, l.invariant.1),
       stored_more a.log (long) a.lsns l.i c.log_key-k.result l.rows _ (omega (arith, eight)) (omega (arith, l.invariant.1)) c.log_key-k.ensures c.store_all.ensures l.invariant.2,
     )
 

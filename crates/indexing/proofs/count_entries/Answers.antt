@@ -37,9 +37,9 @@ next_down-step-requires c =
     step_ready c.args.set c.requires.set_value l.i l.w l.n l.invariant.1 c.loop-n-test.true c.last_place.result c.last_place.ensures
 
 pub lacking_below-passed-requires : goal.lacking_below-passed-requires
-lacking_below-passed-requires c =
-    let l = c.loop-n in
-    counting_ready c.entry_key-row.result c.args.t.now c.requires.t_value _ l.c _ l.held l.invariant.2 c.with_page-e.result (search rules)
+lacking_below-passed-requires c = let l = c.loop-n in
+    let whole = counting_ready c.entry_key-row.result c.args.t.now c.requires.t_value _ l.c _ l.held l.invariant.2 c.with_page-e.result (search rules) in
+    record { klen_le_stride = whole.0; t_value = whole.1 }
 
 pub overflow_add-c : goal.overflow_add-c
 overflow_add-c c = omega (arith, c.lacking_below-passed.ensures.2)

@@ -59,9 +59,10 @@ merge_next-left-requires c =
     let l = c.loop-n in
     let d = c.next_down-step in
     let row = c.entry_key-row.result in
-    entering_next row (row_of row c.entry_key-row.ensures) a.fresh (pages_left a.set.windows a.set.len zero_window) a.t.now (ready row c.entry_key-row.ensures)
+    let whole = entering_next row (row_of row c.entry_key-row.ensures) a.fresh (pages_left a.set.windows a.set.len zero_window) a.t.now (ready row c.entry_key-row.ensures)
     (pages_left a.set.windows l.i l.w) (pages_left a.set.windows d.result.windows d.result.rest) d.result.page (stepped).0
-    c.with_page-e.result c.with_page-e.ensures l.held l.coming l.t l.invariant.2
+    c.with_page-e.result c.with_page-e.ensures l.held l.coming l.t l.invariant.2 in
+    record { klen_le_stride = whole.0; t_value = whole.1.0; bound = whole.1.1 }
 
 pub overflow_sub-n : goal.overflow_sub-n
 overflow_sub-n c = omega arith
@@ -106,7 +107,7 @@ pub store16-requires : goal.store16-requires
 store16-requires c = omega (arith, c.loop-n.invariant.0, well_two 29 29 c.args.t.now c.requires.t_value)
 
 pub shape_of-t : goal.shape_of-t
-shape_of-t c = omega (arith, c.loop-n.invariant.0, c.store16.auto.0)
+shape_of-t c = omega (arith, c.loop-n.invariant.0, c.store16.auto.s)
 
 pub returns : goal.returns
 returns c =

@@ -16,7 +16,7 @@ use Rattle.lookups.specs.Found.{at_or_below}
 use Rattle.lookups.proofs.checkpoint_at.Goals as goal
 
 pub from_key-i-requires : goal.from_key-i-requires
-from_key-i-requires c = (search rules, formed_well checkpoints c.args.t.now c.requires)
+from_key-i-requires c = record { stride_nonzero = search rules; t_value = formed_well checkpoints c.args.t.now c.requires }
 
 pub count-requires : goal.count-requires
 count-requires c = well_two 25 25 c.args.t.now (formed_well checkpoints c.args.t.now c.requires)

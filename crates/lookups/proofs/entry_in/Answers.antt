@@ -17,7 +17,7 @@ use Rattle.volume.specs.Snapshots.{range_says}
 use Rattle.lookups.proofs.entry_in.Goals as goal
 
 pub from_key-i-requires : goal.from_key-i-requires
-from_key-i-requires c = (search rules, formed_well index c.args.t.now c.requires)
+from_key-i-requires c = record { stride_nonzero = search rules; t_value = formed_well index c.args.t.now c.requires }
 
 pub count-requires : goal.count-requires
 count-requires c = well_two 29 29 c.args.t.now (formed_well index c.args.t.now c.requires)

@@ -17,7 +17,7 @@ unfolding held_by
 loop-i-init c = (omega arith, refl, known_none)
 
 pub next_set-step-requires : goal.next_set-step-requires
-next_set-step-requires c = ((c.requires.0, c.requires.2), c.loop-i.invariant.2)
+next_set-step-requires c = record { commits_value = (c.requires.0, c.requires.2); known = c.loop-i.invariant.2 }
 
 pub returns-in_default : goal.returns-in_default
 returns-in_default c =
@@ -27,12 +27,10 @@ returns-in_default c =
     omega (arith, l.invariant.0, ap (λ (items : List Item). length (missing_of (presence_in c.args.presence.now) items)) z)
 
 pub put_frames-n-requires : goal.put_frames-n-requires
-put_frames-n-requires c =
-    let l = c.loop-i in
+put_frames-n-requires c = let l = c.loop-i in
     let g = c.next_set-step in
     let at = c.at-1 in
-    let s = found_at c.args.commits.now (places_in c.args.path.runs) c.requires.0 c.requires.2 c.args.count.0 l.k g.result g.ensures.0 at.given.0.0 at.given.1 in
-    ((c.requires.0, c.requires.1, (s.below, s.has), s.normal), omega (arith, l.invariant.0, missing_few (presence_in c.args.presence.now) c.args.commits.now (places_in c.args.path.runs) c.args.count.0 c.requires.0 c.requires.2))
+    let s = found_at c.args.commits.now (places_in c.args.path.runs) c.requires.0 c.requires.2 c.args.count.0 l.k g.result g.ensures.0 at.given.0.0 at.given.1 in record { commits_value = (c.requires.0, c.requires.1, (s.below, s.has), s.normal); from_bound = omega (arith, l.invariant.0, missing_few (presence_in c.args.presence.now) c.args.commits.now (places_in c.args.path.runs) c.args.count.0 c.requires.0 c.requires.2) }
 
 pub loop-i-smaller : goal.loop-i-smaller
 loop-i-smaller c =

@@ -17,7 +17,7 @@ loop-i-init c =
     (refl, known_nothing (held_by (before c.args.from (commits_at c.args.commits.now (places_in c.args.path.runs)))) (λ p h. held_past c.args.commits.now (places_in c.args.path.runs) c.requires.0 c.requires.2.below c.args.from p h))
 
 pub next_set-step-requires : goal.next_set-step-requires
-next_set-step-requires c = ((c.requires.0, c.requires.2), c.loop-i.invariant.1)
+next_set-step-requires c = record { commits_value = (c.requires.0, c.requires.2); known = c.loop-i.invariant.1 }
 
 pub returns-in_default : goal.returns-in_default
 returns-in_default c =

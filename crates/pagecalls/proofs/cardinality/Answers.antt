@@ -5,15 +5,16 @@ use Rattle.pageset.specs.Sets.{normal}
 use Rattle.pageset.specs.Rules.{size_rule}
 use Rattle.basics.proofs.AskLaws.{stopped, passed}
 use Rattle.pagecalls.proofs.CallLaws.{not_so, so}
+use mathlib.Core.Bool.{not}
 use Rattle.pagecalls.proofs.cardinality.Goals as goal
 
 pub returns-then-not-is_normal : goal.returns-then-not-is_normal
 unfolding size_rule
-returns-then-not-is_normal c = let s = c.args.s in stopped _ (normal s) 3 (not_so _ (normal s) c.is_normal.ensures c.if-not-is_normal.true)
+returns-then-not-is_normal c = let s = c.args.s in stopped _ (normal s) 3 (not_so _ (normal s) c.is_normal.ensures (ap not c.if-not-is_normal.true))
 
 pub cardinality-requires : goal.cardinality-requires
-cardinality-requires c = let s = c.args.s in so _ (normal s) c.is_normal.ensures c.if-not-is_normal.false
+cardinality-requires c = let s = c.args.s in so _ (normal s) c.is_normal.ensures (ap not c.if-not-is_normal.false)
 
 pub returns : goal.returns
 unfolding size_rule
-returns c = let s = c.args.s in ap done c.cardinality.ensures ∙ passed _ (normal s) 3 (so _ (normal s) c.is_normal.ensures c.if-not-is_normal.false)
+returns c = let s = c.args.s in ap done c.cardinality.ensures ∙ passed _ (normal s) 3 (so _ (normal s) c.is_normal.ensures (ap not c.if-not-is_normal.false))

@@ -5,15 +5,16 @@ use Rattle.pageset.specs.Sets.{normal}
 use Rattle.pageset.specs.Rules.{first_rule}
 use Rattle.basics.proofs.AskLaws.{stopped, passed}
 use Rattle.pagecalls.proofs.CallLaws.{not_so, so}
+use mathlib.Core.Bool.{not}
 use Rattle.pagecalls.proofs.first.Goals as goal
 
 pub returns-then-not-is_normal : goal.returns-then-not-is_normal
 unfolding first_rule
-returns-then-not-is_normal c = let s = c.args.s in stopped _ (normal s) 3 (not_so _ (normal s) c.is_normal.ensures c.if-not-is_normal.true)
+returns-then-not-is_normal c = let s = c.args.s in stopped _ (normal s) 3 (not_so _ (normal s) c.is_normal.ensures (ap not c.if-not-is_normal.true))
 
 pub first-requires : goal.first-requires
-first-requires c = let s = c.args.s in so _ (normal s) c.is_normal.ensures c.if-not-is_normal.false
+first-requires c = let s = c.args.s in so _ (normal s) c.is_normal.ensures (ap not c.if-not-is_normal.false)
 
 pub returns : goal.returns
 unfolding first_rule
-returns c = let s = c.args.s in c.page_or_nothing.ensures ∙ ap done c.first.ensures ∙ passed _ (normal s) 3 (so _ (normal s) c.is_normal.ensures c.if-not-is_normal.false)
+returns c = let s = c.args.s in c.page_or_nothing.ensures ∙ ap done c.first.ensures ∙ passed _ (normal s) 3 (so _ (normal s) c.is_normal.ensures (ap not c.if-not-is_normal.false))

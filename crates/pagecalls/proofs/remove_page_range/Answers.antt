@@ -4,6 +4,8 @@ use Rattle.pageset.specs.Sets.{normal}
 use Rattle.pageset.specs.Rules.{remove_rule}
 use Rattle.basics.proofs.AskLaws.{stopped, passed}
 use Rattle.pagecalls.proofs.CallLaws.{gives, not_so, so, range_stopped, range_passed, range_facts}
+use mathlib.Core.Path.{ap}
+use mathlib.Core.Bool.{not}
 use Rattle.pagecalls.proofs.remove_page_range.Goals as goal
 
 pub returns-then-fault-ne0 : goal.returns-then-fault-ne0
@@ -12,11 +14,11 @@ returns-then-fault-ne0 c = gives _ _ _ (range_stopped c.args.a.0 c.args.b.0 _ _ 
 
 pub returns-then-not-is_normal : goal.returns-then-not-is_normal
 unfolding remove_rule
-returns-then-not-is_normal c = let s = c.args.s in gives _ _ _ (stopped _ (normal s) 3 (not_so _ (normal s) c.is_normal.ensures c.if-not-is_normal.true) ∙ range_passed c.args.a.0 c.args.b.0 _ _ c.range_fault-fault.ensures c.if-fault-ne0.false) c.refusal-then-not-is_normal.ensures
+returns-then-not-is_normal c = let s = c.args.s in gives _ _ _ (stopped _ (normal s) 3 (not_so _ (normal s) c.is_normal.ensures (ap not c.if-not-is_normal.true)) ∙ range_passed c.args.a.0 c.args.b.0 _ _ c.range_fault-fault.ensures c.if-fault-ne0.false) c.refusal-then-not-is_normal.ensures
 
 pub remove_page_range-set-requires : goal.remove_page_range-set-requires
-remove_page_range-set-requires c = let s = c.args.s in (so _ (normal s) c.is_normal.ensures c.if-not-is_normal.false, (range_facts c.args.a.0 c.args.b.0 _ c.range_fault-fault.ensures c.if-fault-ne0.false).0)
+remove_page_range-set-requires c = let s = c.args.s in record { s_value = so _ (normal s) c.is_normal.ensures (ap not c.if-not-is_normal.false); a_nonzero = (range_facts c.args.a.0 c.args.b.0 _ c.range_fault-fault.ensures c.if-fault-ne0.false).0 }
 
 pub returns : goal.returns
 unfolding remove_rule
-returns c = let s = c.args.s in gives _ _ _ (passed _ (normal s) 3 (so _ (normal s) c.is_normal.ensures c.if-not-is_normal.false) ∙ range_passed c.args.a.0 c.args.b.0 _ _ c.range_fault-fault.ensures c.if-fault-ne0.false) (refl, c.remove_page_range-set.ensures)
+returns c = let s = c.args.s in gives _ _ _ (passed _ (normal s) 3 (so _ (normal s) c.is_normal.ensures (ap not c.if-not-is_normal.false)) ∙ range_passed c.args.a.0 c.args.b.0 _ _ c.range_fault-fault.ensures c.if-fault-ne0.false) (refl, c.remove_page_range-set.ensures)

@@ -8,7 +8,7 @@ use Rattle.presence.proofs.PresentLaws.{none_there, same_there_lem}
 use Rattle.presence.proofs.any_present.Goals as goal
 
 pub from_key-i-requires : goal.from_key-i-requires
-from_key-i-requires c = (search rules, formed_well presence c.args.t.now c.requires)
+from_key-i-requires c = record { stride_nonzero = search rules; t_value = formed_well presence c.args.t.now c.requires }
 
 pub count-requires : goal.count-requires
 count-requires c = well_two 21 21 c.args.t.now (formed_well presence c.args.t.now c.requires)

@@ -7,7 +7,7 @@ use Rattle.presence.proofs.PresentLaws.{names, none_goes, run_goes}
 use Rattle.presence.proofs.remove_pages.Goals as goal
 
 pub between-run-requires : goal.between-run-requires
-between-run-requires c = (search rules, formed_well presence c.args.t.now c.requires)
+between-run-requires c = record { stride_nonzero = search rules; t_value = formed_well presence c.args.t.now c.requires }
 
 pub returns-then-to-from : goal.returns-then-to-from
 returns-then-to-from c =

@@ -30,7 +30,7 @@ returns-then-left-right c =
     (sym c.same.ensures ∙ not-false _ c.if-not-same.left) c.if-left-right.taken c.joined.ensures
 
 pub joined-requires-then-right-left : goal.joined-requires-then-right-left
-joined-requires-then-right-left c = (sym c.is_normal-2.ensures ∙ not-false _ c.if-not-is_normal-2.left, sym c.is_normal.ensures ∙ not-false _ c.if-not-is_normal.left)
+joined-requires-then-right-left c = record { pages_value = sym c.is_normal-2.ensures ∙ not-false _ c.if-not-is_normal-2.left; pages_value_2 = sym c.is_normal.ensures ∙ not-false _ c.if-not-is_normal.left }
 
 pub returns-then-right-left : goal.returns-then-right-left
 returns-then-right-left c =

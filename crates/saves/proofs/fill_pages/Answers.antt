@@ -47,8 +47,8 @@ loop-n-preserved c =
     let d = c.next_down-step in
     let s = step_done a.set c.requires.0 l.i l.w l.n l.invariant.2 c.loop-n-test.true c.last_place.result c.last_place.ensures d.result.page d.result.windows d.result.rest d.ensures in
     let left = pages_left a.set.windows l.i l.w in (
-      omega (arith, c.store_all.auto.0, l.invariant.0),
-      omega (arith, c.store_all.auto.0, l.invariant.1, c.loop-n-test.true),
+      omega (arith, c.store_all.auto.s, l.invariant.0),
+      omega (arith, c.store_all.auto.s, l.invariant.1, c.loop-n-test.true),
       s.1,
       fill_turn a.sid (long) left (pages_left a.set.windows d.result.windows d.result.rest) d.result.page s.0 l.to c.present_key-row.result l.t _ _ c.present_key-row.ensures c.store_all.ensures
           (omega (arith, l.invariant.1, l.invariant.2.pages)) l.invariant.3,

@@ -12,7 +12,7 @@ use Rattle.saves.proofs.Fills.{run_stored}
 use Rattle.saves.proofs.put_pages.Goals as goal
 
 pub from_key-i-requires : goal.from_key-i-requires
-from_key-i-requires c = (search rules, formed_well presence c.args.t.now c.requires.t_value.0)
+from_key-i-requires c = record { stride_nonzero = search rules; t_value = formed_well presence c.args.t.now c.requires.t_value.0 }
 
 pub count-count-requires : goal.count-count-requires
 count-count-requires c = well_two 21 21 c.args.t.now (formed_well presence c.args.t.now c.requires.t_value.0)
@@ -27,13 +27,13 @@ pub fill_pages-requires : goal.fill_pages-requires
 fill_pages-requires c =
     let long : length c.args.sid ≡ 16 = search rules in
     let room : (count_of c.args.t.now + size (shown c.args.set) ≤ 65535) × (2 + (count_of c.args.t.now + size (shown c.args.set)) * 21 ≤ length c.args.t.now) = pages_room c.args.sid (long) c.args.t.now c.requires.t_value.0 c.requires.t_value_2 c.args.set c.requires.t_value.1 c.requires.t_value_3 in
-    (c.requires.t_value.1, omega (arith, (room).1, c.from_key-i.ensures.1, c.count-count.ensures.0, c.move_up.auto.0))
+    (c.requires.t_value.1, omega (arith, (room).1, c.from_key-i.ensures.1, c.count-count.ensures.0, c.move_up.auto.s))
 
 pub store16-requires : goal.store16-requires
 store16-requires c =
     let long : length c.args.sid ≡ 16 = search rules in
     let room : (count_of c.args.t.now + size (shown c.args.set) ≤ 65535) × (2 + (count_of c.args.t.now + size (shown c.args.set)) * 21 ≤ length c.args.t.now) = pages_room c.args.sid (long) c.args.t.now c.requires.t_value.0 c.requires.t_value_2 c.args.set c.requires.t_value.1 c.requires.t_value_3 in
-    omega (arith, (room).1, c.fill_pages.auto.0, c.move_up.auto.0)
+    omega (arith, (room).1, c.fill_pages.auto.t, c.move_up.auto.s)
 
 pub returns : goal.returns
 returns c =

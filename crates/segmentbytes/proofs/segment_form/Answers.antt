@@ -8,7 +8,7 @@ returns-then-not-set_form c =
     sym (set_not c.args.s.now c.args.at (λ j. (c.type_inv.s j).fits) c.requires (sym c.set_form.ensures ∙ c.if-not-set_form.true))
 
 pub before_first-below-requires : goal.before_first-below-requires
-before_first-below-requires c = (omega arith, sym c.set_form.ensures ∙ c.if-not-set_form.false)
+before_first-below-requires c = record { at_in_bounds = omega arith; s_value = sym c.set_form.ensures ∙ c.if-not-set_form.false }
 
 pub returns : goal.returns
 returns c =

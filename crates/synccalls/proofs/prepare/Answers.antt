@@ -21,15 +21,18 @@ use Rattle.synccalls.proofs.Ends.{prepare_zero, prepare_nowhere, prepare_pending
 use Rattle.synccalls.proofs.prepare.Goals as goal
 
 pub returns-then-not-volumes_formed : goal.returns-then-not-volumes_formed
-returns-then-not-volumes_formed c = unchanged volume_bytes c.args.volumes.now _ 20 (no_volumes c.args.volumes.now c.args.commits.now _ (sym c.volumes_formed.ensures ∙ c.if-not-volumes_formed.true))
+returns-then-not-volumes_formed c = let whole = unchanged volume_bytes c.args.volumes.now _ 20 (no_volumes c.args.volumes.now c.args.commits.now _ (sym c.volumes_formed.ensures ∙ c.if-not-volumes_formed.true)) in
+    record { value = whole.0; volumes_after = whole.1 }
 
 pub returns-then-not-commits_formed : goal.returns-then-not-commits_formed
-returns-then-not-commits_formed c = unchanged volume_bytes c.args.volumes.now _ 20 (no_commits c.args.volumes.now c.args.commits.now _ (sym c.commits_formed.ensures ∙ c.if-not-commits_formed.true))
+returns-then-not-commits_formed c = let whole = unchanged volume_bytes c.args.volumes.now _ 20 (no_commits c.args.volumes.now c.args.commits.now _ (sym c.commits_formed.ensures ∙ c.if-not-commits_formed.true)) in
+    record { value = whole.0; volumes_after = whole.1 }
 
 pub returns-then-not-both_count : goal.returns-then-not-both_count
 returns-then-not-both_count c =
     let asked : Pending = record { local = c.args.local.0; commit = c.args.commit.0; hash = c.args.hash } in
-    unchanged volume_bytes c.args.volumes.now _ 1 (prepare_zero c.args.volumes.now c.args.commits.now c.args.vid (asked) (sym c.volumes_formed.ensures ∙ c.if-not-volumes_formed.false) (sym c.commits_formed.ensures ∙ c.if-not-commits_formed.false) (sym c.both_count.ensures ∙ c.if-not-both_count.true))
+    let whole = unchanged volume_bytes c.args.volumes.now _ 1 (prepare_zero c.args.volumes.now c.args.commits.now c.args.vid (asked) (sym c.volumes_formed.ensures ∙ c.if-not-volumes_formed.false) (sym c.commits_formed.ensures ∙ c.if-not-commits_formed.false) (sym c.both_count.ensures ∙ c.if-not-both_count.true)) in
+    record { value = whole.0; volumes_after = whole.1 }
 
 pub find_volume-requires : goal.find_volume-requires
 find_volume-requires c = (sym c.volumes_formed.ensures ∙ c.if-not-volumes_formed.false)
@@ -37,7 +40,8 @@ find_volume-requires c = (sym c.volumes_formed.ensures ∙ c.if-not-volumes_form
 pub returns-in_default : goal.returns-in_default
 returns-in_default c =
     let asked : Pending = record { local = c.args.local.0; commit = c.args.commit.0; hash = c.args.hash } in
-    unchanged volume_bytes c.args.volumes.now _ 4 (prepare_nowhere c.args.volumes.now c.args.commits.now c.args.vid (asked) (sym c.volumes_formed.ensures ∙ c.if-not-volumes_formed.false) (sym c.commits_formed.ensures ∙ c.if-not-commits_formed.false) (sym c.both_count.ensures ∙ c.if-not-both_count.false) (nowhere c.args.volumes.now c.args.vid (sym c.volumes_formed.ensures ∙ c.if-not-volumes_formed.false) _ _ c.find_volume.ensures.says c.in_default.is))
+    let whole = unchanged volume_bytes c.args.volumes.now _ 4 (prepare_nowhere c.args.volumes.now c.args.commits.now c.args.vid (asked) (sym c.volumes_formed.ensures ∙ c.if-not-volumes_formed.false) (sym c.commits_formed.ensures ∙ c.if-not-commits_formed.false) (sym c.both_count.ensures ∙ c.if-not-both_count.false) (nowhere c.args.volumes.now c.args.vid (sym c.volumes_formed.ensures ∙ c.if-not-volumes_formed.false) _ _ c.find_volume.ensures.says c.in_default.is)) in
+    record { value = whole.0; volumes_after = whole.1 }
 
 pub volume_at-v-requires : goal.volume_at-v-requires
 volume_at-v-requires c = ((sym c.volumes_formed.ensures ∙ c.if-not-volumes_formed.false), at_in 117 17 c.args.volumes.now _ _ _ c.find_volume.ensures.place c.in-At.is)
@@ -45,12 +49,14 @@ volume_at-v-requires c = ((sym c.volumes_formed.ensures ∙ c.if-not-volumes_for
 pub returns-then-not-none_pending : goal.returns-then-not-none_pending
 returns-then-not-none_pending c =
     let asked : Pending = record { local = c.args.local.0; commit = c.args.commit.0; hash = c.args.hash } in
-    unchanged volume_bytes c.args.volumes.now _ 9 (prepare_pending c.args.volumes.now c.args.commits.now c.args.vid (asked) (sym c.volumes_formed.ensures ∙ c.if-not-volumes_formed.false) (sym c.commits_formed.ensures ∙ c.if-not-commits_formed.false) (sym c.both_count.ensures ∙ c.if-not-both_count.false) (volume_says c.volume_at-v.result) (found_here c.args.volumes.now c.args.vid (sym c.volumes_formed.ensures ∙ c.if-not-volumes_formed.false) _ _ c.find_volume.ensures.says c.in-At.is c.volume_at-v.result c.volume_at-v.ensures) (sym c.none_pending.ensures ∙ c.if-not-none_pending.true))
+    let whole = unchanged volume_bytes c.args.volumes.now _ 9 (prepare_pending c.args.volumes.now c.args.commits.now c.args.vid (asked) (sym c.volumes_formed.ensures ∙ c.if-not-volumes_formed.false) (sym c.commits_formed.ensures ∙ c.if-not-commits_formed.false) (sym c.both_count.ensures ∙ c.if-not-both_count.false) (volume_says c.volume_at-v.result) (found_here c.args.volumes.now c.args.vid (sym c.volumes_formed.ensures ∙ c.if-not-volumes_formed.false) _ _ c.find_volume.ensures.says c.in-At.is c.volume_at-v.result c.volume_at-v.ensures) (sym c.none_pending.ensures ∙ c.if-not-none_pending.true)) in
+    record { value = whole.0; volumes_after = whole.1 }
 
 pub returns-then-not-is_below : goal.returns-then-not-is_below
 returns-then-not-is_below c =
     let asked : Pending = record { local = c.args.local.0; commit = c.args.commit.0; hash = c.args.hash } in
-    unchanged volume_bytes c.args.volumes.now _ 11 (prepare_pushed c.args.volumes.now c.args.commits.now c.args.vid (asked) (sym c.volumes_formed.ensures ∙ c.if-not-volumes_formed.false) (sym c.commits_formed.ensures ∙ c.if-not-commits_formed.false) (sym c.both_count.ensures ∙ c.if-not-both_count.false) (volume_says c.volume_at-v.result) (found_here c.args.volumes.now c.args.vid (sym c.volumes_formed.ensures ∙ c.if-not-volumes_formed.false) _ _ c.find_volume.ensures.says c.in-At.is c.volume_at-v.result c.volume_at-v.ensures) (sym c.none_pending.ensures ∙ c.if-not-none_pending.false) (ap (λ (m : Option ℕ). below m c.args.local.0) (sym c.watermark_of.ensures) ∙ sym c.is_below.ensures ∙ c.if-not-is_below.true))
+    let whole = unchanged volume_bytes c.args.volumes.now _ 11 (prepare_pushed c.args.volumes.now c.args.commits.now c.args.vid (asked) (sym c.volumes_formed.ensures ∙ c.if-not-volumes_formed.false) (sym c.commits_formed.ensures ∙ c.if-not-commits_formed.false) (sym c.both_count.ensures ∙ c.if-not-both_count.false) (volume_says c.volume_at-v.result) (found_here c.args.volumes.now c.args.vid (sym c.volumes_formed.ensures ∙ c.if-not-volumes_formed.false) _ _ c.find_volume.ensures.says c.in-At.is c.volume_at-v.result c.volume_at-v.ensures) (sym c.none_pending.ensures ∙ c.if-not-none_pending.false) (ap (λ (m : Option ℕ). below m c.args.local.0) (sym c.watermark_of.ensures) ∙ sym c.is_below.ensures ∙ c.if-not-is_below.true)) in
+    record { value = whole.0; volumes_after = whole.1 }
 
 pub latest_lsn-requires : goal.latest_lsn-requires
 latest_lsn-requires c = (sym c.commits_formed.ensures ∙ c.if-not-commits_formed.false)
@@ -58,12 +64,14 @@ latest_lsn-requires c = (sym c.commits_formed.ensures ∙ c.if-not-commits_forme
 pub returns-then-not-is_next : goal.returns-then-not-is_next
 returns-then-not-is_next c =
     let asked : Pending = record { local = c.args.local.0; commit = c.args.commit.0; hash = c.args.hash } in
-    unchanged volume_bytes c.args.volumes.now _ 12 (prepare_apart c.args.volumes.now c.args.commits.now c.args.vid (asked) (sym c.volumes_formed.ensures ∙ c.if-not-volumes_formed.false) (sym c.commits_formed.ensures ∙ c.if-not-commits_formed.false) (sym c.both_count.ensures ∙ c.if-not-both_count.false) (volume_says c.volume_at-v.result) (found_here c.args.volumes.now c.args.vid (sym c.volumes_formed.ensures ∙ c.if-not-volumes_formed.false) _ _ c.find_volume.ensures.says c.in-At.is c.volume_at-v.result c.volume_at-v.ensures) (sym c.none_pending.ensures ∙ c.if-not-none_pending.false) (ap (λ (m : Option ℕ). below m c.args.local.0) (sym c.watermark_of.ensures) ∙ sym c.is_below.ensures ∙ c.if-not-is_below.false) (ap (λ (m : Option ℕ). is_before m c.args.commit.0) (sym c.latest_lsn.ensures) ∙ sym c.is_next.ensures ∙ c.if-not-is_next.true))
+    let whole = unchanged volume_bytes c.args.volumes.now _ 12 (prepare_apart c.args.volumes.now c.args.commits.now c.args.vid (asked) (sym c.volumes_formed.ensures ∙ c.if-not-volumes_formed.false) (sym c.commits_formed.ensures ∙ c.if-not-commits_formed.false) (sym c.both_count.ensures ∙ c.if-not-both_count.false) (volume_says c.volume_at-v.result) (found_here c.args.volumes.now c.args.vid (sym c.volumes_formed.ensures ∙ c.if-not-volumes_formed.false) _ _ c.find_volume.ensures.says c.in-At.is c.volume_at-v.result c.volume_at-v.ensures) (sym c.none_pending.ensures ∙ c.if-not-none_pending.false) (ap (λ (m : Option ℕ). below m c.args.local.0) (sym c.watermark_of.ensures) ∙ sym c.is_below.ensures ∙ c.if-not-is_below.false) (ap (λ (m : Option ℕ). is_before m c.args.commit.0) (sym c.latest_lsn.ensures) ∙ sym c.is_next.ensures ∙ c.if-not-is_next.true)) in
+    record { value = whole.0; volumes_after = whole.1 }
 
 pub returns-then-is_zero : goal.returns-then-is_zero
 returns-then-is_zero c =
     let asked : Pending = record { local = c.args.local.0; commit = c.args.commit.0; hash = c.args.hash } in
-    unchanged volume_bytes c.args.volumes.now _ 13 (prepare_zero_hash c.args.volumes.now c.args.commits.now c.args.vid (asked) (sym c.volumes_formed.ensures ∙ c.if-not-volumes_formed.false) (sym c.commits_formed.ensures ∙ c.if-not-commits_formed.false) (sym c.both_count.ensures ∙ c.if-not-both_count.false) (volume_says c.volume_at-v.result) (found_here c.args.volumes.now c.args.vid (sym c.volumes_formed.ensures ∙ c.if-not-volumes_formed.false) _ _ c.find_volume.ensures.says c.in-At.is c.volume_at-v.result c.volume_at-v.ensures) (sym c.none_pending.ensures ∙ c.if-not-none_pending.false) (ap (λ (m : Option ℕ). below m c.args.local.0) (sym c.watermark_of.ensures) ∙ sym c.is_below.ensures ∙ c.if-not-is_below.false) (ap (λ (m : Option ℕ). is_before m c.args.commit.0) (sym c.latest_lsn.ensures) ∙ sym c.is_next.ensures ∙ c.if-not-is_next.false) (sym c.is_zero.ensures ∙ c.if-is_zero.true))
+    let whole = unchanged volume_bytes c.args.volumes.now _ 13 (prepare_zero_hash c.args.volumes.now c.args.commits.now c.args.vid (asked) (sym c.volumes_formed.ensures ∙ c.if-not-volumes_formed.false) (sym c.commits_formed.ensures ∙ c.if-not-commits_formed.false) (sym c.both_count.ensures ∙ c.if-not-both_count.false) (volume_says c.volume_at-v.result) (found_here c.args.volumes.now c.args.vid (sym c.volumes_formed.ensures ∙ c.if-not-volumes_formed.false) _ _ c.find_volume.ensures.says c.in-At.is c.volume_at-v.result c.volume_at-v.ensures) (sym c.none_pending.ensures ∙ c.if-not-none_pending.false) (ap (λ (m : Option ℕ). below m c.args.local.0) (sym c.watermark_of.ensures) ∙ sym c.is_below.ensures ∙ c.if-not-is_below.false) (ap (λ (m : Option ℕ). is_before m c.args.commit.0) (sym c.latest_lsn.ensures) ∙ sym c.is_next.ensures ∙ c.if-not-is_next.false) (sym c.is_zero.ensures ∙ c.if-is_zero.true)) in
+    record { value = whole.0; volumes_after = whole.1 }
 
 pub store_volume-requires : goal.store_volume-requires
 store_volume-requires c =

@@ -16,16 +16,19 @@ use Rattle.synccalls.proofs.Ends.{sync_nowhere, sync_decided, found_here, form_h
 use Rattle.synccalls.proofs.sync.Goals as goal
 
 pub returns-then-not-volumes_formed : goal.returns-then-not-volumes_formed
-returns-then-not-volumes_formed c = unchanged volume_bytes c.args.volumes.now _ 20 (no_volumes c.args.volumes.now c.args.commits.now _ (sym c.volumes_formed.ensures ∙ c.if-not-volumes_formed.true))
+returns-then-not-volumes_formed c = let whole = unchanged volume_bytes c.args.volumes.now _ 20 (no_volumes c.args.volumes.now c.args.commits.now _ (sym c.volumes_formed.ensures ∙ c.if-not-volumes_formed.true)) in
+    record { value = whole.0; volumes_after = whole.1 }
 
 pub returns-then-not-commits_formed : goal.returns-then-not-commits_formed
-returns-then-not-commits_formed c = unchanged volume_bytes c.args.volumes.now _ 20 (no_commits c.args.volumes.now c.args.commits.now _ (sym c.commits_formed.ensures ∙ c.if-not-commits_formed.true))
+returns-then-not-commits_formed c = let whole = unchanged volume_bytes c.args.volumes.now _ 20 (no_commits c.args.volumes.now c.args.commits.now _ (sym c.commits_formed.ensures ∙ c.if-not-commits_formed.true)) in
+    record { value = whole.0; volumes_after = whole.1 }
 
 pub find_volume-requires : goal.find_volume-requires
 find_volume-requires c = (sym c.volumes_formed.ensures ∙ c.if-not-volumes_formed.false)
 
 pub returns-in_default : goal.returns-in_default
-returns-in_default c = unchanged volume_bytes c.args.volumes.now _ 4 (sync_nowhere c.args.volumes.now c.args.commits.now c.args.vid (sym c.volumes_formed.ensures ∙ c.if-not-volumes_formed.false) (sym c.commits_formed.ensures ∙ c.if-not-commits_formed.false) (nowhere c.args.volumes.now c.args.vid (sym c.volumes_formed.ensures ∙ c.if-not-volumes_formed.false) _ _ c.find_volume.ensures.says c.in_default.is))
+returns-in_default c = let whole = unchanged volume_bytes c.args.volumes.now _ 4 (sync_nowhere c.args.volumes.now c.args.commits.now c.args.vid (sym c.volumes_formed.ensures ∙ c.if-not-volumes_formed.false) (sym c.commits_formed.ensures ∙ c.if-not-commits_formed.false) (nowhere c.args.volumes.now c.args.vid (sym c.volumes_formed.ensures ∙ c.if-not-volumes_formed.false) _ _ c.find_volume.ensures.says c.in_default.is)) in
+    record { value = whole.0; volumes_after = whole.1 }
 
 pub volume_at-v-requires : goal.volume_at-v-requires
 volume_at-v-requires c = ((sym c.volumes_formed.ensures ∙ c.if-not-volumes_formed.false), at_in 117 17 c.args.volumes.now _ _ _ c.find_volume.ensures.place c.in-At.is)
@@ -38,10 +41,13 @@ store_volume-requires c = let whole = store_ready c.args.volumes.now c.args.vid 
     record { t_value = whole.0; t_value_2 = whole.1 }
 
 pub returns-in-Refused : goal.returns-in-Refused
-returns-in-Refused c = unchanged volume_bytes c.args.volumes.now _ _ (sync_decided c.args.volumes.now c.args.commits.now c.args.vid (sym c.volumes_formed.ensures ∙ c.if-not-volumes_formed.false) (sym c.commits_formed.ensures ∙ c.if-not-commits_formed.false) c.volume_at-v.result c.pull_of.result _ (found_here c.args.volumes.now c.args.vid (sym c.volumes_formed.ensures ∙ c.if-not-volumes_formed.false) _ _ c.find_volume.ensures.says c.in-At.is c.volume_at-v.result c.volume_at-v.ensures) c.pull_of.ensures c.in-Refused.is)
+returns-in-Refused c = let whole = unchanged volume_bytes c.args.volumes.now _ _ (sync_decided c.args.volumes.now c.args.commits.now c.args.vid (sym c.volumes_formed.ensures ∙ c.if-not-volumes_formed.false) (sym c.commits_formed.ensures ∙ c.if-not-commits_formed.false) c.volume_at-v.result c.pull_of.result _ (found_here c.args.volumes.now c.args.vid (sym c.volumes_formed.ensures ∙ c.if-not-volumes_formed.false) _ _ c.find_volume.ensures.says c.in-At.is c.volume_at-v.result c.volume_at-v.ensures) c.pull_of.ensures c.in-Refused.is) in
+    record { value = whole.0; volumes_after = whole.1 }
 
 pub returns-in-Nothing : goal.returns-in-Nothing
-returns-in-Nothing c = kept c.args.volumes.now _ (λ j. (c.slice_known-1.given j).fits) (sym c.volumes_formed.ensures ∙ c.if-not-volumes_formed.false) (sync_decided c.args.volumes.now c.args.commits.now c.args.vid (sym c.volumes_formed.ensures ∙ c.if-not-volumes_formed.false) (sym c.commits_formed.ensures ∙ c.if-not-commits_formed.false) c.volume_at-v.result c.pull_of.result Pull.Nothing (found_here c.args.volumes.now c.args.vid (sym c.volumes_formed.ensures ∙ c.if-not-volumes_formed.false) _ _ c.find_volume.ensures.says c.in-At.is c.volume_at-v.result c.volume_at-v.ensures) c.pull_of.ensures c.in-Nothing.is)
+returns-in-Nothing c = let whole = kept c.args.volumes.now _ (λ j. (c.slice_known-1.given j).fits) (sym c.volumes_formed.ensures ∙ c.if-not-volumes_formed.false) (sync_decided c.args.volumes.now c.args.commits.now c.args.vid (sym c.volumes_formed.ensures ∙ c.if-not-volumes_formed.false) (sym c.commits_formed.ensures ∙ c.if-not-commits_formed.false) c.volume_at-v.result c.pull_of.result Pull.Nothing (found_here c.args.volumes.now c.args.vid (sym c.volumes_formed.ensures ∙ c.if-not-volumes_formed.false) _ _ c.find_volume.ensures.says c.in-At.is c.volume_at-v.result c.volume_at-v.ensures) c.pull_of.ensures c.in-Nothing.is) in
+    record { value = whole.0; volumes_after = whole.1 }
 
 pub returns-in-To : goal.returns-in-To
-returns-in-To c = changed volume_bytes c.args.volumes.now _ _ _ (sync_decided c.args.volumes.now c.args.commits.now c.args.vid (sym c.volumes_formed.ensures ∙ c.if-not-volumes_formed.false) (sym c.commits_formed.ensures ∙ c.if-not-commits_formed.false) c.volume_at-v.result c.pull_of.result (Pull.To c.in-To.remote) (found_here c.args.volumes.now c.args.vid (sym c.volumes_formed.ensures ∙ c.if-not-volumes_formed.false) _ _ c.find_volume.ensures.says c.in-At.is c.volume_at-v.result c.volume_at-v.ensures) c.pull_of.ensures c.in-To.is ∙ ap (λ (z : Volume). done (store volume_key bytes z (volumes_in c.args.volumes.now))) (sym (moved_says c.volume_at-v.result c.with_sync.result c.in-To.remote c.watermark_of-watermark.result c.watermark_of-watermark.ensures c.with_sync.ensures))) c.store_volume.ensures
+returns-in-To c = let whole = changed volume_bytes c.args.volumes.now _ _ _ (sync_decided c.args.volumes.now c.args.commits.now c.args.vid (sym c.volumes_formed.ensures ∙ c.if-not-volumes_formed.false) (sym c.commits_formed.ensures ∙ c.if-not-commits_formed.false) c.volume_at-v.result c.pull_of.result (Pull.To c.in-To.remote) (found_here c.args.volumes.now c.args.vid (sym c.volumes_formed.ensures ∙ c.if-not-volumes_formed.false) _ _ c.find_volume.ensures.says c.in-At.is c.volume_at-v.result c.volume_at-v.ensures) c.pull_of.ensures c.in-To.is ∙ ap (λ (z : Volume). done (store volume_key bytes z (volumes_in c.args.volumes.now))) (sym (moved_says c.volume_at-v.result c.with_sync.result c.in-To.remote c.watermark_of-watermark.result c.watermark_of-watermark.ensures c.with_sync.ensures))) c.store_volume.ensures in
+    record { value = whole.0; volumes_after = whole.1 }

@@ -4,6 +4,8 @@ use Prim.Native.Nat.{◌-◌}
 use native.Mathlib.Omega.{arith}
 use Rattle.table.proofs.Rows.{rows_lt}
 use Rattle.table.proofs.Checks.{ahead_start, ahead_more, ahead_not, ahead_end}
+use mathlib.Core.Path.{ap}
+use mathlib.Core.Bool.{not}
 use Rattle.table.proofs.in_order.Goals as goal
 
 pub loop-i-init : goal.loop-i-init
@@ -19,7 +21,7 @@ pub returns-then-not-before : goal.returns-then-not-before
 returns-then-not-before c =
     let a = c.args in
     let l = c.loop-i in
-    sym (l.invariant.1 ∙ ahead_not a.stride a.klen a.n a.t.now l.i l.at c.requires.0 c.loop-i-test.true _ c.before-in-loop-i.ensures c.if-not-before.true)
+    sym (l.invariant.1 ∙ ahead_not a.stride a.klen a.n a.t.now l.i l.at c.requires.0 c.loop-i-test.true _ c.before-in-loop-i.ensures (ap not c.if-not-before.true))
 
 pub overflow_add-i : goal.overflow_add-i
 overflow_add-i c = omega arith
@@ -31,7 +33,7 @@ pub loop-i-preserved : goal.loop-i-preserved
 loop-i-preserved c =
     let a = c.args in
     let l = c.loop-i in
-    (omega arith, l.invariant.1 ∙ ahead_more a.stride a.klen a.n a.t.now l.i l.at c.requires.0 c.loop-i-test.true _ c.before-in-loop-i.ensures c.if-not-before.false)
+    (omega arith, l.invariant.1 ∙ ahead_more a.stride a.klen a.n a.t.now l.i l.at c.requires.0 c.loop-i-test.true _ c.before-in-loop-i.ensures (ap not c.if-not-before.false))
 
 pub returns : goal.returns
 returns c =

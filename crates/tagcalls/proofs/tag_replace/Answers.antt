@@ -9,12 +9,12 @@ use Rattle.tagcalls.proofs.Ends.{replace_no_name, replace_full, replace_is}
 use Rattle.tagcalls.proofs.tag_replace.Goals as goal
 
 pub returns-then-not-tags_formed : goal.returns-then-not-tags_formed
-returns-then-not-tags_formed c =
-    told_unchanged tag_bytes (λ x. tagged_answer (earlier x)) (λ p. p.1) c.args.tags.now _ 20 _ (lent_no _ _ (sym c.tags_formed.ensures ∙ c.if-not-tags_formed.true)) c.no_volume.ensures
+returns-then-not-tags_formed c = let whole = told_unchanged tag_bytes (λ x. tagged_answer (earlier x)) (λ p. p.1) c.args.tags.now _ 20 _ (lent_no _ _ (sym c.tags_formed.ensures ∙ c.if-not-tags_formed.true)) c.no_volume.ensures in
+    record { value = whole.0; tags_after = whole.1 }
 
 pub returns-then-not-is_name : goal.returns-then-not-is_name
-returns-then-not-is_name c =
-    told_unchanged tag_bytes (λ x. tagged_answer (earlier x)) (λ p. p.1) c.args.tags.now _ 1 _ (replace_no_name c.args.tags.now c.args.name.now c.args.vid (sym c.tags_formed.ensures ∙ c.if-not-tags_formed.false) (sym c.is_name.ensures ∙ c.if-not-is_name.true)) c.no_volume-then-not-is_name.ensures
+returns-then-not-is_name c = let whole = told_unchanged tag_bytes (λ x. tagged_answer (earlier x)) (λ p. p.1) c.args.tags.now _ 1 _ (replace_no_name c.args.tags.now c.args.name.now c.args.vid (sym c.tags_formed.ensures ∙ c.if-not-tags_formed.false) (sym c.is_name.ensures ∙ c.if-not-is_name.true)) c.no_volume-then-not-is_name.ensures in
+    record { value = whole.0; tags_after = whole.1 }
 
 pub room_for_tag-requires : goal.room_for_tag-requires
 room_for_tag-requires c = ((sym c.tags_formed.ensures ∙ c.if-not-tags_formed.false), (sym c.is_name.ensures ∙ c.if-not-is_name.false))
@@ -22,7 +22,8 @@ room_for_tag-requires c = ((sym c.tags_formed.ensures ∙ c.if-not-tags_formed.f
 pub returns-then-not-room_for_tag : goal.returns-then-not-room_for_tag
 returns-then-not-room_for_tag c =
     let vid_form : id_form c.args.vid ≡ true = id_form_lem c.args.vid (search rules) (λ j. let f : Fits w8 (get_or c.args.vid j 0) = search rules in f.fits) in
-    told_unchanged tag_bytes (λ x. tagged_answer (earlier x)) (λ p. p.1) c.args.tags.now _ 19 _ (replace_full c.args.tags.now c.args.name.now c.args.vid (sym c.tags_formed.ensures ∙ c.if-not-tags_formed.false) (sym c.is_name.ensures ∙ c.if-not-is_name.false) (sym (c.room_for_tag.ensures c.args.vid (vid_form)) ∙ c.if-not-room_for_tag.true)) c.no_volume-then-not-room_for_tag.ensures
+    let whole = told_unchanged tag_bytes (λ x. tagged_answer (earlier x)) (λ p. p.1) c.args.tags.now _ 19 _ (replace_full c.args.tags.now c.args.name.now c.args.vid (sym c.tags_formed.ensures ∙ c.if-not-tags_formed.false) (sym c.is_name.ensures ∙ c.if-not-is_name.false) (sym (c.room_for_tag.ensures c.args.vid (vid_form)) ∙ c.if-not-room_for_tag.true)) c.no_volume-then-not-room_for_tag.ensures in
+    record { value = whole.0; tags_after = whole.1 }
 
 pub named_volume-before-requires : goal.named_volume-before-requires
 named_volume-before-requires c = ((sym c.tags_formed.ensures ∙ c.if-not-tags_formed.false), (sym c.is_name.ensures ∙ c.if-not-is_name.false))

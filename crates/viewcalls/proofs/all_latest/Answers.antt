@@ -11,20 +11,20 @@ loop-i-init c = refl
 
 pub returns-then-not-range_latest : goal.returns-then-not-range_latest
 returns-then-not-range_latest c =
-    let l : length (c).args.t3 ≡ 8 = search rules in
-    let h : c.loop-i.i < (c).args.len = omega arith in
-    let k : c.loop-i.i < length (c).args.t3 = omega arith in
-    fails (λ x. latest_by (volume_says (c).args.v) (maybe_lsn_says (c).args.head) (range_says x)) _ (c).args.t3 (c).args.len c.loop-i.i h k (sym c.range_latest.ensures ∙ c.if-not-range_latest.true) ∙ sym c.loop-i.invariant
+    let l : length c.args.path ≡ 8 = search rules in
+    let h : c.loop-i.i < c.args.len = omega arith in
+    let k : c.loop-i.i < length c.args.path = omega arith in
+    fails (λ x. latest_by (volume_says c.args.v) (maybe_lsn_says c.args.head) (range_says x)) _ c.args.path c.args.len c.loop-i.i h k (sym c.range_latest.ensures ∙ c.if-not-range_latest.true) ∙ sym c.loop-i.invariant
 
 pub loop-i-smaller : goal.loop-i-smaller
 loop-i-smaller c = omega arith
 
 pub loop-i-preserved : goal.loop-i-preserved
 loop-i-preserved c =
-    let l : length (c).args.t3 ≡ 8 = search rules in
-    let h : c.loop-i.i < (c).args.len = omega arith in
-    let k : c.loop-i.i < length (c).args.t3 = omega arith in
-    c.loop-i.invariant ∙ goes_on (λ x. latest_by (volume_says (c).args.v) (maybe_lsn_says (c).args.head) (range_says x)) _ (c).args.t3 (c).args.len c.loop-i.i h k (sym c.range_latest.ensures ∙ c.if-not-range_latest.false)
+    let l : length c.args.path ≡ 8 = search rules in
+    let h : c.loop-i.i < c.args.len = omega arith in
+    let k : c.loop-i.i < length c.args.path = omega arith in
+    c.loop-i.invariant ∙ goes_on (λ x. latest_by (volume_says c.args.v) (maybe_lsn_says c.args.head) (range_says x)) _ c.args.path c.args.len c.loop-i.i h k (sym c.range_latest.ensures ∙ c.if-not-range_latest.false)
 
 pub returns : goal.returns
-returns c = none_left (λ x. latest_by (volume_says (c).args.v) (maybe_lsn_says (c).args.head) (range_says x)) (c).args.t3 (c).args.len c.loop-i.i (omega arith) ∙ sym c.loop-i.invariant
+returns c = none_left (λ x. latest_by (volume_says c.args.v) (maybe_lsn_says c.args.head) (range_says x)) c.args.path c.args.len c.loop-i.i (omega arith) ∙ sym c.loop-i.invariant

@@ -6,4 +6,4 @@ use Rattle.volume.specs.declared.volume.MaybeLsn.{MaybeLsn}
 use Rattle.viewcalls.proofs.is_below.Goals as goal
 
 pub returns-in-At : goal.returns-in-At
-returns-in-At c = sym (ap (λ (m : MaybeLsn). below (maybe_lsn_says m) (c).args.lsn) c.in-At.is)
+returns-in-At c = sym (ap (λ (m : MaybeLsn). below (maybe_lsn_says m) c.args.lsn) c.in-At.is)

@@ -6,7 +6,7 @@ use Rattle.volume.specs.declared.volume.MaybeLsn.{MaybeLsn}
 use Rattle.viewcalls.proofs.lsn_after.Goals as goal
 
 pub overflow_add-result : goal.overflow_add-result
-overflow_add-result c = omega (arith, ltb-true c.in-At.w.0 (c).args.lsn (sym (ap (λ (m : MaybeLsn). below (maybe_lsn_says m) (c).args.lsn) c.in-At.is) ∙ (c).requires), (c).ranges.lsn)
+overflow_add-result c = omega (arith, ltb-true c.in-At.w.0 c.args.lsn (sym (ap (λ (m : MaybeLsn). below (maybe_lsn_says m) c.args.lsn) c.in-At.is) ∙ c.requires), c.ranges.lsn)
 
 pub returns-in-At : goal.returns-in-At
 returns-in-At c = sym (ap (λ (m : MaybeLsn). after (maybe_lsn_says m)) c.in-At.is)

@@ -9,10 +9,10 @@ use Rattle.viewcalls.proofs.CheckLaws.{local_end, no_end, remote_end}
 use Rattle.viewcalls.proofs.range_latest.Goals as goal
 
 pub returns-then-same : goal.returns-then-same
-returns-then-same c = c.is_at.ensures ∙ local_end (volume_says (c).args.v) (maybe_lsn_says (c).args.head) (range_says (c).args.range) (sym (id_is _ _) ∙ sym c.same.ensures ∙ c.if-same.true)
+returns-then-same c = c.is_at.ensures ∙ local_end (volume_says c.args.v) (maybe_lsn_says c.args.head) (range_says c.args.range) (sym (id_is _ _) ∙ sym c.same.ensures ∙ c.if-same.true)
 
 pub returns-then-not-same : goal.returns-then-not-same
-returns-then-not-same c = no_end (volume_says (c).args.v) (maybe_lsn_says (c).args.head) (range_says (c).args.range) (sym (id_is _ _) ∙ sym c.same.ensures ∙ c.if-same.false) (sym (id_is _ _) ∙ sym c.same-2.ensures ∙ c.if-not-same.true)
+returns-then-not-same c = no_end (volume_says c.args.v) (maybe_lsn_says c.args.head) (range_says c.args.range) (sym (id_is _ _) ∙ sym c.same.ensures ∙ c.if-same.false) (sym (id_is _ _) ∙ sym c.same-2.ensures ∙ c.if-not-same.true)
 
 pub returns : goal.returns
-returns c = c.is_at-2.ensures ∙ ap (λ (o : Option ℕ). is_at o (c).args.range.end.0) c.remote_of.ensures ∙ remote_end (volume_says (c).args.v) (maybe_lsn_says (c).args.head) (range_says (c).args.range) (sym (id_is _ _) ∙ sym c.same.ensures ∙ c.if-same.false) (sym (id_is _ _) ∙ sym c.same-2.ensures ∙ c.if-not-same.false)
+returns c = c.is_at-2.ensures ∙ ap (λ (o : Option ℕ). is_at o c.args.range.end.0) c.remote_of.ensures ∙ remote_end (volume_says c.args.v) (maybe_lsn_says c.args.head) (range_says c.args.range) (sym (id_is _ _) ∙ sym c.same.ensures ∙ c.if-same.false) (sym (id_is _ _) ∙ sym c.same-2.ensures ∙ c.if-not-same.false)

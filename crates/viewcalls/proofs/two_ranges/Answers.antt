@@ -3,4 +3,4 @@ use Rattle.viewcalls.proofs.Ends.{two_laid}
 use Rattle.viewcalls.proofs.two_ranges.Goals as goal
 
 pub returns : goal.returns
-returns c = two_laid _ _ c.empty-none.ensures (c).args.range (c).args.next
+returns c = two_laid _ _ c.empty-none.ensures c.args.range c.args.next

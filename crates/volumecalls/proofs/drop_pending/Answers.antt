@@ -15,13 +15,15 @@ use Rattle.basics.specs.Orders.{bytes}
 use Rattle.volumecalls.proofs.drop_pending.Goals as goal
 
 pub returns-then-not-volumes_formed : goal.returns-then-not-volumes_formed
-returns-then-not-volumes_formed c = unchanged volume_bytes c.args.volumes.now _ 20 (lent_no _ _ (sym c.volumes_formed.ensures ∙ c.if-not-volumes_formed.true))
+returns-then-not-volumes_formed c = let whole = unchanged volume_bytes c.args.volumes.now _ 20 (lent_no _ _ (sym c.volumes_formed.ensures ∙ c.if-not-volumes_formed.true)) in
+    record { value = whole.0; volumes_after = whole.1 }
 
 pub find_volume-requires : goal.find_volume-requires
 find_volume-requires c = (sym c.volumes_formed.ensures ∙ c.if-not-volumes_formed.false)
 
 pub returns-in_default : goal.returns-in_default
-returns-in_default c = unchanged volume_bytes c.args.volumes.now _ 4 (drop_is c.args.volumes.now c.args.vid (sym c.volumes_formed.ensures ∙ c.if-not-volumes_formed.false) ∙ ap (λ (o : Option Volume). need o 4 >>= (λ v. done (store volume_key bytes (with_pending v none) (volumes_in c.args.volumes.now)))) (nowhere c.args.volumes.now c.args.vid (sym c.volumes_formed.ensures ∙ c.if-not-volumes_formed.false) _ _ c.find_volume.ensures.says c.in_default.is))
+returns-in_default c = let whole = unchanged volume_bytes c.args.volumes.now _ 4 (drop_is c.args.volumes.now c.args.vid (sym c.volumes_formed.ensures ∙ c.if-not-volumes_formed.false) ∙ ap (λ (o : Option Volume). need o 4 >>= (λ v. done (store volume_key bytes (with_pending v none) (volumes_in c.args.volumes.now)))) (nowhere c.args.volumes.now c.args.vid (sym c.volumes_formed.ensures ∙ c.if-not-volumes_formed.false) _ _ c.find_volume.ensures.says c.in_default.is)) in
+    record { value = whole.0; volumes_after = whole.1 }
 
 pub volume_at-v-requires : goal.volume_at-v-requires
 volume_at-v-requires c = ((sym c.volumes_formed.ensures ∙ c.if-not-volumes_formed.false), at_in 117 17 c.args.volumes.now _ _ _ c.find_volume.ensures.place c.in-At.is)

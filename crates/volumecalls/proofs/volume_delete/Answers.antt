@@ -6,7 +6,8 @@ use Rattle.volumecalls.proofs.Ends.{delete_is}
 use Rattle.volumecalls.proofs.volume_delete.Goals as goal
 
 pub returns-then-not-volumes_formed : goal.returns-then-not-volumes_formed
-returns-then-not-volumes_formed c = unchanged volume_bytes c.args.volumes.now _ 20 (lent_no _ _ (sym c.volumes_formed.ensures ∙ c.if-not-volumes_formed.true))
+returns-then-not-volumes_formed c = let whole = unchanged volume_bytes c.args.volumes.now _ 20 (lent_no _ _ (sym c.volumes_formed.ensures ∙ c.if-not-volumes_formed.true)) in
+    record { value = whole.0; volumes_after = whole.1 }
 
 pub remove_volume-requires : goal.remove_volume-requires
 remove_volume-requires c = (sym c.volumes_formed.ensures ∙ c.if-not-volumes_formed.false)

@@ -12,7 +12,7 @@ unfolding held_by
 loop-n-init c = (omega arith, omega arith, omega arith, (known_none, length-replicate {A = ℕ} 32 0))
 
 pub next_gift-step-requires : goal.next_gift-step-requires
-next_gift-step-requires c = ((c.requires.0, c.requires.1), (c.loop-n.invariant.3.0, c.loop-n.invariant.3.1))
+next_gift-step-requires c = record { commits_value = (c.requires.0, c.requires.1); known = (c.loop-n.invariant.3.0, c.loop-n.invariant.3.1) }
 
 pub returns-in_default : goal.returns-in_default
 returns-in_default c =

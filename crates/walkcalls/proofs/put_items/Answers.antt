@@ -20,7 +20,7 @@ loop-i-init c =
     (put_start item_bytes 1003 c.args.list.now (items_from c.args.commits.now c.args.count.0 (places_in c.args.path.runs) 0), omega arith, omega arith, (known_none, length-replicate {A = ℕ} 32 0))
 
 pub next_gift-step-requires : goal.next_gift-step-requires
-next_gift-step-requires c = ((c.requires.commits_value.0, c.requires.commits_value.1), (c.loop-i.invariant.3.0, c.loop-i.invariant.3.1))
+next_gift-step-requires c = record { commits_value = (c.requires.commits_value.0, c.requires.commits_value.1); known = (c.loop-i.invariant.3.0, c.loop-i.invariant.3.1) }
 
 pub shape_of-list-in_default : goal.shape_of-list-in_default
 shape_of-list-in_default c =
@@ -28,12 +28,10 @@ shape_of-list-in_default c =
     put_length item_bytes 1003 c.args.list.now (items_from c.args.commits.now c.args.count.0 (places_in c.args.path.runs) 0) l.n l.list _ l.invariant.0 c.requires.runs_in_bounds
 
 pub returns-in_default : goal.returns-in_default
-returns-in_default c =
-    let l = c.loop-i in
+returns-in_default c = let l = c.loop-i in
     let g = c.next_gift-step in
     let z = step_none c.args.commits.now (places_in c.args.path.runs) c.requires.commits_value.0 c.requires.commits_value.1 c.args.count.0 l.k g.result g.ensures.0 c.in_default.is in
-    let m = put_number item_bytes 1003 c.args.list.now (items_from c.args.commits.now c.args.count.0 (places_in c.args.path.runs) 0) l.n l.list _ l.invariant.0 z in
-    ((m, omega (arith, m, items_few c.args.commits.now (places_in c.args.path.runs) c.args.count.0, c.requires.commits_value.1.few)), put_all item_bytes 1003 c.args.list.now (items_from c.args.commits.now c.args.count.0 (places_in c.args.path.runs) 0) l.n l.list _ l.invariant.0 z)
+    let m = put_number item_bytes 1003 c.args.list.now (items_from c.args.commits.now c.args.count.0 (places_in c.args.path.runs) 0) l.n l.list _ l.invariant.0 z in record { value = (m, omega (arith, m, items_few c.args.commits.now (places_in c.args.path.runs) c.args.count.0, c.requires.commits_value.1.few)); list_after = put_all item_bytes 1003 c.args.list.now (items_from c.args.commits.now c.args.count.0 (places_in c.args.path.runs) 0) l.n l.list _ l.invariant.0 z }
 
 pub overflow_mul-n : goal.overflow_mul-n
 overflow_mul-n c =

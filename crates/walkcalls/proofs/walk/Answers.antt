@@ -21,7 +21,7 @@ pub returns-then-not-has_room : goal.returns-then-not-has_room
 returns-then-not-has_room c = no_room c.args.commits.now c.args.snapshot.now c.args.list.now c.args.items.now (sym c.commits_formed.ensures ∙ c.if-not-commits_formed.false) c.snapshot_code-code.result c.snapshot_code-code.ensures c.if-code-ne0.false (items_from c.args.commits.now c.snapshot_arg-s.result.count.0 (places_in c.path_of-path.result.runs) 0) (arg_items c.args.snapshot.now c.snapshot_arg-s.result c.snapshot_arg-s.ensures c.args.commits.now c.path_of-path.result.runs c.path_of-path.ensures) (sym c.has_room.ensures ∙ c.if-not-has_room.true)
 
 pub put_items-n-requires : goal.put_items-n-requires
-put_items-n-requires c = (((sym c.commits_formed.ensures ∙ c.if-not-commits_formed.false), c.path_of-path.ensures.inside), leb-true (length (items_from c.args.commits.now c.snapshot_arg-s.result.count.0 (places_in c.path_of-path.result.runs) 0)) (length c.args.list.now / 1003) (sym c.has_room.ensures ∙ c.if-not-has_room.false))
+put_items-n-requires c = record { commits_value = ((sym c.commits_formed.ensures ∙ c.if-not-commits_formed.false), c.path_of-path.ensures.inside); runs_in_bounds = leb-true (length (items_from c.args.commits.now c.snapshot_arg-s.result.count.0 (places_in c.path_of-path.result.runs) 0)) (length c.args.list.now / 1003) (sym c.has_room.ensures ∙ c.if-not-has_room.false) }
 
 pub returns : goal.returns
 returns c = walked c.args.commits.now c.args.snapshot.now c.args.list.now c.args.items.now (sym c.commits_formed.ensures ∙ c.if-not-commits_formed.false) c.snapshot_code-code.result c.snapshot_code-code.ensures c.if-code-ne0.false (items_from c.args.commits.now c.snapshot_arg-s.result.count.0 (places_in c.path_of-path.result.runs) 0) (arg_items c.args.snapshot.now c.snapshot_arg-s.result c.snapshot_arg-s.ensures c.args.commits.now c.path_of-path.result.runs c.path_of-path.ensures) (sym c.has_room.ensures ∙ c.if-not-has_room.false) _ _ c.put_items-n.ensures.list_after c.put_items-n.ensures.value.0

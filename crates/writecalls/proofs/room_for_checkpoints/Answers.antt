@@ -9,7 +9,7 @@ use Rattle.writecalls.proofs.Rows.{is_form, few, checkpoint_rows_lem}
 use Rattle.writecalls.proofs.room_for_checkpoints.Goals as goal
 
 pub count_checkpoints-more-requires : goal.count_checkpoints-more-requires
-count_checkpoints-more-requires c = (formed_well checkpoints c.args.t.now c.requires.0, few c.args.c.now c.requires.1 c.lsns_number-n.result c.lsns_read-ns.result c.lsns_number-n.ensures c.lsns_read-ns.ensures)
+count_checkpoints-more-requires c = record { t_value = formed_well checkpoints c.args.t.now c.requires.0; n_bound = few c.args.c.now c.requires.1 c.lsns_number-n.result c.lsns_read-ns.result c.lsns_number-n.ensures c.lsns_read-ns.ensures }
 
 pub room_for-requires : goal.room_for-requires
 room_for-requires c = ready checkpoints c.args.t.now c.requires.0

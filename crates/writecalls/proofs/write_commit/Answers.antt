@@ -8,7 +8,8 @@ returns-then-number-ne0 c =
     let refusal : let a = (start).args in Left a.commits.now a.checkpoints.now a.index.now a.commits.now a.checkpoints.now a.index.now c.write_plan-plan.result.number (answer a.commits.now a.checkpoints.now a.index.now a.c.now) = let a = (start).args in
     let p = c.write_plan-plan in
     unchanged a.commits.now a.checkpoints.now a.index.now p.result.number _ (number_is a.commits.now a.checkpoints.now a.index.now a.c.now p.result p.ensures) c.if-number-ne0.true in
-    refusal
+    let whole = refusal in
+    record { value = whole.0; commits_after = whole.1.0; checkpoints_after = whole.1.1.0; index_after = whole.1.1.1 }
 
 pub write_fresh-requires : goal.write_fresh-requires
 write_fresh-requires c =
@@ -29,4 +30,4 @@ returns c =
     let a = (start).args in
     let w = c.write_fresh in
     let whole = changed a.commits.now a.checkpoints.now a.index.now _ _ (all_passed).answers _ _ _ w.ensures.0 w.ensures.1.0 w.ensures.1.1 in
-    record { value = whole.0; commits_after = whole.1; checkpoints_after = whole.2; index_after = whole.3 }
+    record { value = whole.0; commits_after = whole.1.0; checkpoints_after = whole.1.1.0; index_after = whole.1.1.1 }

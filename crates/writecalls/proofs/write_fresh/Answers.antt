@@ -16,4 +16,4 @@ put_entries-requires c = record { t_value = (c.requires.commits_value.2, c.requi
 
 pub returns : goal.returns
 returns c = let whole = written c.args.commits.now c.args.checkpoints.now c.args.index.now c.args.c.now _ _ _ (c.put.ensures ∙ commit_laid_lem c.args.commits.now c.args.c.now c.requires.commits_value.0 c.requires.commit) c.put_checkpoints.ensures c.put_entries.ensures in
-    record { commits_after = whole.0; checkpoints_after = whole.1; index_after = whole.2 }
+    record { commits_after = whole.0; checkpoints_after = whole.1.0; index_after = whole.1.1 }

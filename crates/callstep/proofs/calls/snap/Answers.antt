@@ -5,7 +5,7 @@ use Rattle.viewargs.proofs.ViewLaws.{answer_shaped}
 use Rattle.callstep.proofs.calls.snap.Goals as goal
 
 pub returns-then-refusal-ne0 : goal.returns-then-refusal-ne0
-returns-then-refusal-ne0 c = let a = c.args in let z : c.snapshot-a.result.code ≡ 0 → ⊥ = λ e. omega (arith, c.if-refusal-ne0.true, e) in let r = snap_refused a.volumes.now a.commits.now a.vid c.id_of.result c.id_of.ensures c.snapshot-a.result c.snapshot-a.ensures a.slot a.slots.now z in (c.coded.ensures ∙ r.0, r.1)
+returns-then-refusal-ne0 c = let a = c.args in let z : c.snapshot-a.result.code ≡ 0 → ⊥ = λ e. omega (arith, c.if-refusal-ne0.true, e) in let r = snap_refused a.volumes.now a.commits.now a.vid c.id_of.result c.id_of.ensures c.snapshot-a.result c.snapshot-a.ensures a.slot a.slots.now z in record { result_value = c.coded.ensures ∙ r.0; slots_after = r.1 }
 
 pub put-requires : goal.put-requires
 put-requires c = let a = c.args in (c.requires.0, c.requires.1, answer_shaped a.volumes.now a.commits.now c.id_of.result a.slots.now c.snapshot-a.result c.snapshot-a.ensures)

@@ -8,7 +8,7 @@ pub loop-k-init : goal.loop-k-init
 loop-k-init c = (c.requires.commits_value.1, c.requires.n_value, refl)
 
 pub next_commit-met-requires : goal.next_commit-met-requires
-next_commit-met-requires c = ((c.requires.commits_value.0, c.loop-k.invariant.0), omega (arith, c.loop-k.invariant.1))
+next_commit-met-requires c = record { commits_value = (c.requires.commits_value.0, c.loop-k.invariant.0); nonzero = omega (arith, c.loop-k.invariant.1) }
 
 pub lists_lsn-requires : goal.lists_lsn-requires
 lists_lsn-requires c = (c.requires.commits_value.0, c.next_commit-met.ensures.inside)

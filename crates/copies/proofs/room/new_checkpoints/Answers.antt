@@ -10,16 +10,13 @@ pub loop-k-init : goal.loop-k-init
 loop-k-init c = (c.requires.is_left.0, c.requires.is_left.1, omega arith, omega arith)
 
 pub next_commit-met-requires : goal.next_commit-met-requires
-next_commit-met-requires c = ((c.requires.commits_value.0, c.loop-k.invariant.0), omega (arith, c.loop-k.invariant.1))
+next_commit-met-requires c = record { commits_value = (c.requires.commits_value.0, c.loop-k.invariant.0); nonzero = omega (arith, c.loop-k.invariant.1) }
 
 pub overflow_sub-k : goal.overflow_sub-k
 overflow_sub-k c = omega arith
 
 pub new_checkpoints_of-total-requires : goal.new_checkpoints_of-total-requires
-new_checkpoints_of-total-requires c = (
-  (c.requires.commits_value.0, c.requires.commits_value.1, c.next_commit-met.ensures.inside),
-  (c.next_commit-met.ensures.is_left, one_fewer c.args.commits.now c.loop-k.rest c.loop-k.k c.loop-k.invariant.1 c.next_commit-met.result c.next_commit-met.ensures (c.loop-k.k - 1) (omega arith)),
-)
+new_checkpoints_of-total-requires c = record { commits_value = (c.requires.commits_value.0, c.requires.commits_value.1, c.next_commit-met.ensures.inside); is_left = ((c.next_commit-met.ensures.is_left, one_fewer c.args.commits.now c.loop-k.rest c.loop-k.k c.loop-k.invariant.1 c.next_commit-met.result c.next_commit-met.ensures (c.loop-k.k - 1) (omega arith)), ) }
 
 pub overflow_add-total : goal.overflow_add-total
 overflow_add-total c =

@@ -41,7 +41,7 @@ pub overflow_sub-m : goal.overflow_sub-m
 overflow_sub-m c = omega arith
 
 pub new_checkpoint-total-requires : goal.new_checkpoint-total-requires
-new_checkpoint-total-requires c = ((c.requires.commits_value.0, c.requires.commits_value.1, omega (arith, c.loop-m.invariant.0)), c.requires.is_left)
+new_checkpoint-total-requires c = record { commits_value = (c.requires.commits_value.0, c.requires.commits_value.1, omega (arith, c.loop-m.invariant.0)); is_left = c.requires.is_left }
 
 pub overflow_add-total : goal.overflow_add-total
 overflow_add-total c = omega (arith, c.loop-m.invariant.1, c.new_checkpoint-total.ensures, lacks_le checkpoint_key log_lsn (c.args.log, c.load64-lsn.result) (map (checkpoint c.args.log) (lsns_at (c.loop-m.m - 1) (c.loop-m.from + 8) c.args.commits.now) ++ others c.args.commits.now c.args.checkpoints.now c.args.left c.args.log))

@@ -10,7 +10,7 @@ pub loop-k-init : goal.loop-k-init
 loop-k-init c = (c.requires.is_left.0, c.requires.is_left.1, omega arith, omega arith)
 
 pub next_commit-met-requires : goal.next_commit-met-requires
-next_commit-met-requires c = ((c.requires.commits_value.0, c.loop-k.invariant.0), omega (arith, c.loop-k.invariant.1))
+next_commit-met-requires c = record { commits_value = (c.requires.commits_value.0, c.loop-k.invariant.0); nonzero = omega (arith, c.loop-k.invariant.1) }
 
 pub copied_row-c-requires : goal.copied_row-c-requires
 copied_row-c-requires c = (c.requires.commits_value.0, c.next_commit-met.ensures.inside, omega arith)

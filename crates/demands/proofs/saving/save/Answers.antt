@@ -11,4 +11,4 @@ returns c =
     let g = c.args in
     let whole = save_keeps g.volumes.now g.commits.now g.checkpoints.now g.index.now g.presence.now g.vid.now g.snapshot.now g.count g.sid g.pages.now g.out.now
     (typed) _ _ _ _ _ _ c.sigatuda_save.ensures.value c.sigatuda_save.ensures.leaves in
-    record { keeps = whole.0; logs_stay_formed = whole.1; stays_formed = whole.2; stays_exact = whole.3 }
+    record { keeps = whole.0; logs_stay_formed = whole.1.0; stays_formed = whole.1.1.0; stays_exact = whole.1.1.1 }

@@ -14,4 +14,4 @@ returns c =
     let remote_typed : id_form c.args.remote ≡ true = id_form_lem c.args.remote (search rules) (λ j. let f : Fits w8 (get_or c.args.remote j 0) = search rules in f.fits) in
     let g = c.args in
     let whole = snapshot_keeps g.volumes.now g.commits.now g.checkpoints.now g.index.now g.out.now _ _ _ _ _ (ids g.vid g.local g.remote) (and_both (and_both (vid_typed) (local_typed)) (remote_typed)) _ g.snapshot.now _ c.sigatuda_volume_from_snapshot.ensures in
-    record { keeps = whole.0; stays_formed = whole.1; logs_stay_formed = whole.2; stays_exact = whole.3 }
+    record { keeps = whole.0; stays_formed = whole.1.0; logs_stay_formed = whole.1.1.0; stays_exact = whole.1.1.1 }

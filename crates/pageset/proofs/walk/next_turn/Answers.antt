@@ -16,10 +16,10 @@ use Rattle.std.proofs.Common.{arith}
 use Rattle.pageset.proofs.walk.next_turn.Goals as goal
 
 pub returns-then-x-y : goal.returns-then-x-y
-returns-then-x-y c = (left_first _ _ c.if-x-y.true, (omega arith, omega arith, omega arith))
+returns-then-x-y c = record { value = left_first _ _ c.if-x-y.true; lefts_bound = (omega arith, omega arith, omega arith) }
 
 pub returns-then-y-x : goal.returns-then-y-x
-returns-then-y-x c = (right_first _ _ c.if-y-x.true, (omega arith, omega arith, omega arith))
+returns-then-y-x c = record { value = right_first _ _ c.if-y-x.true; lefts_bound = (omega arith, omega arith, omega arith) }
 
 pub returns : goal.returns
 returns c = record { value = together _ _ (omega arith); lefts_bound = (omega arith, omega arith, omega arith) }

@@ -4,4 +4,4 @@ use Rattle.refusals.proofs.copycall.volume_from_logref.Goals as goal
 
 pub returns : goal.returns
 returns c = let whole = copy_left _ _ _ _ _ _ _ _ _ _ _ _ c.sigatuda_volume_from_logref.ensures in
-    record { as_found = whole.0; as_found_2 = whole.1; as_found_3 = whole.2; as_found_4 = whole.3; as_found_5 = whole.4 }
+    record { as_found = whole.0; as_found_2 = whole.1.0; as_found_3 = whole.1.1.0; as_found_4 = whole.1.1.1.0; as_found_5 = whole.1.1.1.1 }

@@ -3,9 +3,7 @@ use Rattle.segmentargs.proofs.ListLaws.{set_fine, made_frame}
 use Rattle.segmentargs.proofs.lists.frame_in.Goals as goal
 
 pub span-pages-requires : goal.span-pages-requires
-span-pages-requires c =
-    let r = c.run_in-run in
-    (set_fine c.args.b.now c.args.at c.requires.1 c.args.k r.result r.ensures c.set_read.result c.set_read.ensures, r.ensures.1)
+span-pages-requires c = let r = c.run_in-run in record { s_value = set_fine c.args.b.now c.args.at c.requires.1 c.args.k r.result r.ensures c.set_read.result c.set_read.ensures; a_nonzero = r.ensures.1 }
 
 pub returns : goal.returns
 returns c =
