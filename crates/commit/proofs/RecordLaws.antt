@@ -17,7 +17,7 @@ use Rattle.commit.specs.contracts.SegmentIdx.{the_type}
 
 -- a segment has sixteen places for frames
 pub long_of : (s : SegmentIdx) (vs : List Val) → Is (row the_type) s vs → length s.frames ≡ 16
-long_of s vs g = sym (length-map s.frames _) ∙ g.1.1.1.1.1.0.1.0.1
+long_of s vs g = g.1.1.1.1.1.0.1.0.1
 
 -- a range that is found
 pub tells_found : (f : Part) (x : SegmentRange) (r : RangeAnswer) → IsRange f x → r ≡ found_range x → Tells r (done (some f))

@@ -13,13 +13,13 @@ use Rattle.commitbytes.proofs.PartLaws.{segment_long}
 
 module _ (x : Commit) (vs : List Val) (g : Is (row the_type) x vs) where
   pub log_16 : length x.log ≡ 16
-  log_16 = sym (length-map x.log _) ∙ g.1.1.0.1.0.1
+  log_16 = g.1.1.0.1.0.1
 
   pub hash_32 : length x.hash ≡ 32
-  hash_32 = sym (length-map x.hash _) ∙ g.1.1.1.1.1.1.0.1.0.1
+  hash_32 = g.1.1.1.1.1.1.0.1.0.1
 
   pub segment_594 : length (segment_bytes.spell (segment_says x.segment)) ≡ 594
   segment_594 = segment_long x.segment _ g.1.1.1.1.1.1.1.1.0
 
   pub checkpoints_8 : length x.checkpoints ≡ 8
-  checkpoints_8 = sym (length-map x.checkpoints _) ∙ g.1.1.1.1.1.1.1.1.1.1.0.1.0.1
+  checkpoints_8 = g.1.1.1.1.1.1.1.1.1.1.0.1.0.1

@@ -33,7 +33,7 @@ use Rattle.gifts.specs.Paths.{run_of, no_run, runs_of, places_in, place_at, Belo
 
 -- a path has eight places for runs
 pub runs_8 : (p : Path) (vs : List Val) → Is (row the_type) p vs → length p.runs ≡ 8
-runs_8 p vs g = sym (length-map p.runs _) ∙ g.1.1.0.1.0.1
+runs_8 p vs g = g.1.1.0.1.0.1
 
 -- ---- numbers in a row
 

@@ -19,7 +19,7 @@ use Rattle.pageset.proofs.WindowLaws.{lt_or, mask_nil, mask_same, mask_other, ma
 
 -- of a parameter `c.good.0` (the first) or `c.good.1.0` (the second), of a call's result its `.ok`
 pub long_of : (s : PageSet) (vs : List Val) → Is (row the_type) s vs → length s.windows ≡ 32
-long_of s vs g = sym (length-map s.windows _) ∙ g.1.1.1.0.1.0.1
+long_of s vs g = g.1.1.1.0.1.0.1
 
 -- ---- the windows that a walk bit left
 

@@ -35,7 +35,7 @@ use Rattle.paths.proofs.PathLaws.{those_next}
 
 -- what is left has places for 8 ranges: of a parameter, by `.good .1 .0`
 pub places : (l : Left) (vs : List Val) → Is (row the_type) l vs → length l.path ≡ 8
-places l vs g = sym (length-map l.path _) ∙ g.1.1.0.1.0.1
+places l vs g = g.1.1.0.1.0.1
 
 -- ---- the first commit of a range
 

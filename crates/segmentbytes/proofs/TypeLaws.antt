@@ -12,14 +12,14 @@ use Rattle.commit.specs.contracts.SegmentRange as R
 
 module _ (x : SegmentIdx) (vs : List Val) (g : Is (row S.the_type) x vs) where
   pub sid_16 : length x.sid ≡ 16
-  sid_16 = sym (length-map x.sid _) ∙ g.1.1.0.1.0.1
+  sid_16 = g.1.1.0.1.0.1
 
   pub windows_32 : length x.pages.windows ≡ 32
   windows_32 = long_of x.pages _ g.1.1.1.0
 
 module _ (x : SegmentRange) (vs : List Val) (g : Is (row R.the_type) x vs) where
   pub range_sid_16 : length x.sid ≡ 16
-  range_sid_16 = sym (length-map x.sid _) ∙ g.1.1.0.1.0.1
+  range_sid_16 = g.1.1.0.1.0.1
 
   pub range_windows_32 : length x.pages.windows ≡ 32
   range_windows_32 = long_of x.pages _ g.1.1.1.1.1.0

@@ -24,7 +24,7 @@ use Rattle.volume.proofs.PathLaws.{back, zero_ranges}
 
 -- a snapshot has places for 8 ranges: of a parameter, by `.good .0`
 pub places : (s : Snapshot) (vs : List Val) → Is (row the_type) s vs → length s.path ≡ 8
-places s vs g = sym (length-map s.path _) ∙ g.1.1.1.0.1.0.1
+places s vs g = g.1.1.1.0.1.0.1
 
 -- ---- new
 
