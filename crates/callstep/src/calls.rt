@@ -96,7 +96,7 @@ pub fn save(
     text: &[u8],
 ) -> Printed
     requires { (slot ≤ 3) × (length slots.now ≡ 1052) × (is_done (pages_of text.now) ≡ true) }
-    ensures { Saves (record { volumes = volumes.entry.now; commits = commits.old; checkpoints = checkpoints.old; index = index.old; presence = presence.old; slots = slots.now }) vid slot count sid text.now result (record { volumes = volumes.entry.now; commits = commits.new; checkpoints = checkpoints.new; index = index.new; presence = presence.new; slots = slots.now }) }
+    ensures { Saves (record { volumes = volumes.now; commits = commits.old; checkpoints = checkpoints.old; index = index.old; presence = presence.old; slots = slots.now }) vid slot count sid text.now result (record { volumes = volumes.now; commits = commits.new; checkpoints = checkpoints.new; index = index.new; presence = presence.new; slots = slots.now }) }
 {
     let pages = page_set(text);
     if !slots::is_set(slots, slot) {
