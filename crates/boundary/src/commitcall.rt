@@ -7,8 +7,8 @@ ghost use Rattle.layout.specs.Lent.{lent, sized};
 ghost use Rattle.arguments.specs.Replies.{value_or};
 
 use arguments::{Reply, replies};
-use commitcalls::{commit_read, latest_commit, latest_lsn, page_count};
 use basics::lsn::Lsn;
+use commitcalls::{commit_read, latest_commit, latest_lsn, page_count};
 use tablereplies::{found_or_not, put_maybe_count};
 
 // The log's commit at an LSN, in its table form, or nothing: 20, 1, 3.

@@ -1,5 +1,6 @@
 // The call list program: reads lines on standard input and prints one line each. What a line does is proved in callstep, and what it prints in the module printed; here bytes are read, cut into lines and written.
 #![tactic(auto)]
+
 pub mod printed;
 
 ghost use Rattle.std.specs.Prelude.{◌≡◌, ◌+◌, ◌≤◌, length};

@@ -15,13 +15,13 @@ ghost use Rattle.callstep.specs.Steps.{open_on, snap_on, snap_head, find_on, fou
 ghost use Rattle.callstep.specs.Says.{printed_says, Saves, Fetches};
 
 use super::Printed;
+use basics::lsn::Lsn;
+use basics::page_count::PageCount;
+use basics::pageidx::PageIdx;
 use callpages::page_set;
 use calltext::Head;
 use callvalues::made::id_of;
 use callvalues::{made, slots};
-use basics::lsn::Lsn;
-use basics::page_count::PageCount;
-use basics::pageidx::PageIdx;
 use opencalls::Wanted;
 
 // A code, and no commit.

@@ -1,5 +1,6 @@
 // A call list, line by line: from a line and the tester, lent as five tables and four slots in bytes, to the line that is printed and the tester afterwards.
 #![tactic(auto)]
+
 pub mod calls;
 
 ghost use Rattle.std.specs.Prelude.{◌≡◌, length};

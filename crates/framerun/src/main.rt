@@ -1,5 +1,6 @@
 // Drives the calls on frames and ranges, each answer against plain lists, and writes how many were compared and how many differed.
 #![tactic(auto)]
+
 use plainset::tally;
 
 mod damaged;

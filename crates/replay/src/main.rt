@@ -1,6 +1,7 @@
 // Asks the exported functions what the original was asked, and compares their answers with its own: the records of sample.bin, in the form of oracle/SAMPLE.md.
 // A record is answered as it was where the number, whether there is an answer, and every byte that was lent, zero before the call, are the recorded ones.
 #![tactic(auto)]
+
 use libc::STDOUT_FILENO;
 use sums::Sums;
 

@@ -1,5 +1,6 @@
 // Drives the calls on page sets, each answer against that of a plain list of pages, and writes how many were compared and how many differed.
 #![tactic(auto)]
+
 use plainset::tally;
 
 mod built;
