@@ -59,7 +59,7 @@ module _ (vs cs ks es out vs' cs' ks' es' out' : List ℕ) (x : Ids) (types : id
         gotten (from_snapshot (volumes_in vs) (logs_in cs ks es) (snapshot_in b) x) _ e2 λ q k e3.
         let s : ◌≡◌ {A = Made} (some q.0, q.1, q.2) m = done_same e3 in
         record {
-          volumes_formed_lem = and_fst (volumes_ok vs) (logs_ok cs ks es) ok;
+          volumes_formed = and_fst (volumes_ok vs) (logs_ok cs ks es) ok;
           lent_formed = and_snd (volumes_ok vs) (logs_ok cs ks es) ok;
           types = types;
           is = ap (λ (y : Answer (Volume × Table Volume × Logs)). (outcome was y (λ z. with_logs (with_volumes was z.1) z.2)).1) k ∙ (λ i. volumes_and_logs (s i).1 (s i).2);
@@ -81,7 +81,7 @@ module _ (vs cs ks es out vs' cs' ks' es' out' : List ℕ) (x : Ids) (types : id
         lent_done (copy_ok vs cs ks es) _ e λ ok e1.
         after_asking (logref_in lsn place) _ e1 λ args e2.
         record {
-          volumes_formed_lem = and_fst (volumes_ok vs) (logs_ok cs ks es) ok;
+          volumes_formed = and_fst (volumes_ok vs) (logs_ok cs ks es) ok;
           lent_formed = and_snd (volumes_ok vs) (logs_ok cs ks es) ok;
           types = types;
           is = ap (λ (y : Answer Made). (outcome was y (λ z. with_logs (with_volumes was z.1) z.2)).1) e2;

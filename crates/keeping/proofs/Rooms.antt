@@ -50,29 +50,29 @@ write_commit_rooms g h c e =
 
 -- volumes and logs with the rooms of vs and g
 pub record BothRooms (vs : Table Volume) (g : Logs) (r : Table Volume × Logs) : Type 0 where
-  pub of_volumes_lem : r.0.room ≡ vs.room
+  pub of_volumes : r.0.room ≡ vs.room
   pub of_logs : SameRooms r.1 g
 
 same_both : (vs : Table Volume) (g : Logs) (r : Table Volume × Logs) → r.0 ≡ vs → r.1 ≡ g → BothRooms vs g r
-same_both vs g r p q = record { of_volumes_lem = ap (λ (x : Table Volume). x.room) p; of_logs = same_logs r.1 g q }
+same_both vs g r p q = record { of_volumes = ap (λ (x : Table Volume). x.room) p; of_logs = same_logs r.1 g q }
 
 -- a volume stored, and a commit written
 pushed_rooms : (vs : Table Volume) (g : Logs) (v : Volume) (c : Commit) → BothRooms vs g (store volume_key bytes v vs, write g c)
-pushed_rooms vs g v c = record { of_volumes_lem = refl; of_logs = write_rooms g c }
+pushed_rooms vs g v c = record { of_volumes = refl; of_logs = write_rooms g c }
 
 pub success_rooms : (vs : Table Volume) (g : Logs) (vid : Id) (c : Commit) (r : Table Volume × Logs) → success vs g vid c ≡ done r → BothRooms vs g r
 success_rooms vs g vid c r e = success_done vs g vid c r e (λ v p is pe q. subst (BothRooms vs g) q (pushed_rooms vs g (pushed_volume v p) c))
 
 pub recover_rooms : (vs : Table Volume) (g : Logs) (vid : Id) → BothRooms vs g ((recover vs g vid).1, (recover vs g vid).2)
 recover_rooms vs g vid =
-    recover_ends vs g (BothRooms vs g) (same_both vs g (vs, g) refl refl) (λ v. record { of_volumes_lem = refl; of_logs = same_logs g g refl }) (λ v p c there. pushed_rooms vs g (pushed_volume v p) c) vid
+    recover_ends vs g (BothRooms vs g) (same_both vs g (vs, g) refl refl) (λ v. record { of_volumes = refl; of_logs = same_logs g g refl }) (λ v p c there. pushed_rooms vs g (pushed_volume v p) c) vid
 
 copied_rooms : (vs : Table Volume) (g : Logs) (path : List Range) (x : Ids) (r : Volume × Table Volume × Logs) → copied vs g path x ≡ done r → BothRooms vs g (r.1, r.2)
 copied_rooms vs g path x r e =
     let q = (copied_done vs g path x r e).1 in
     let w = write_all g (renumbered x.local (path_commits g.commits path)) in
     record {
-      of_volumes_lem = ap (λ (y : Volume × Table Volume × Logs). y.1.room) (sym q);
+      of_volumes = ap (λ (y : Volume × Table Volume × Logs). y.1.room) (sym q);
       of_logs = through r.2 w g (same_logs r.2 w (ap (λ (y : Volume × Table Volume × Logs). y.2) (sym q))) (write_all_rooms g (renumbered x.local (path_commits g.commits path)));
     }
 
@@ -83,5 +83,5 @@ pub from_logref_rooms : (vs : Table Volume) (g : Logs) (log : Id) (lsn : ℕ) (x
 from_logref_rooms vs g log lsn x r e =
     ⊎_elim (λ s. same_both vs g (r.1, r.2) s.0 s.1) (λ s.
     let k = copied_rooms vs g (record { log = log; start = 1; end = lsn } ∷ []) x s.0 s.1 in
-    record { of_volumes_lem = ap (λ (y : Table Volume). y.room) s.2 ∙ k.of_volumes; of_logs = through r.2 s.0.2 g (same_logs r.2 s.0.2 s.3) k.of_logs })
+    record { of_volumes = ap (λ (y : Table Volume). y.room) s.2 ∙ k.of_volumes; of_logs = through r.2 s.0.2 g (same_logs r.2 s.0.2 s.3) k.of_logs })
     (from_logref_done vs g log lsn x r e)

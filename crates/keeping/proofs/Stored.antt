@@ -153,7 +153,7 @@ module _ {A : Type 0} (a : Answer A) (logs : A → Logs) (cs ks es cs' ks' es' :
     before = volumes_and_logs (volumes_in vs) (logs_in cs ks es)
 
     pub record Ruled (x : A) : Type 0 where
-      pub volumes_formed_lem : volumes_ok vs ≡ true
+      pub volumes_formed : volumes_ok vs ≡ true
       pub lent_formed : logs_ok cs ks es ≡ true
       pub types : typed call ≡ true
       pub is : (does before call).1 ≡ volumes_and_logs (volumes x) (logs x)

@@ -127,7 +127,7 @@ module _ (vs cs ks es vs' cs' ks' es' : List ℕ) (vid : Id) where
           asked (eqb (length b) 722) 3 _ args λ long a1.
           asked (commit_lsns (commit_in b)) 1 _ a1 λ one a2.
           record {
-            volumes_formed_lem = and_fst (volumes_ok vs) (logs_ok cs ks es) ok;
+            volumes_formed = and_fst (volumes_ok vs) (logs_ok cs ks es) ok;
             lent_formed = and_snd (volumes_ok vs) (logs_ok cs ks es) ok;
             types = typed_in b (asked_true (in_form commit_bytes commit_form b) 3 a2);
             is = ap (λ (a : Answer (Table Volume × Logs)). (outcome was a (λ q. with_logs (with_volumes was q.0) q.1)).1) e2;
@@ -152,7 +152,7 @@ module _ (vs cs ks es vs' cs' ks' es' : List ℕ) (vid : Id) where
         lent_done (push_ok vs cs ks es) (done (recover (volumes_in vs) (logs_in cs ks es) vid)) e λ ok e1.
         let s : recover (volumes_in vs) (logs_in cs ks es) vid ≡ r = done_same e1 in
         record {
-          volumes_formed_lem = and_fst (volumes_ok vs) (logs_ok cs ks es) ok;
+          volumes_formed = and_fst (volumes_ok vs) (logs_ok cs ks es) ok;
           lent_formed = and_snd (volumes_ok vs) (logs_ok cs ks es) ok;
           types = refl;
           is = λ i. volumes_and_logs (s i).1 (s i).2;

@@ -37,8 +37,7 @@ lacking-a-requires c =
     let p = c.requires in
     let l = c.loop-i in
     let z = room in
-    let whole = rw (item a.stride l.from a.batch.now) ((p.stride_nonzero.0, p.stride_nonzero.1, omega (arith, length_part l.from a.stride a.batch.now z)), p.t_value) in
-    record { stride_nonzero = whole.0; t_value = whole.1 }
+    rw (item a.stride l.from a.batch.now) (record { stride_nonzero = (p.stride_nonzero.0, p.stride_nonzero.1, omega (arith, length_part l.from a.stride a.batch.now z)); t_value = p.t_value })
 
 pub overflow_sub-n : goal.overflow_sub-n
 overflow_sub-n c = omega arith

@@ -59,8 +59,8 @@ merge_next-left-requires c =
     let p = c.requires in
     let y = ready in
     let l = c.loop-j in
-    let whole = rw (item a.stride ((l.j - 1) * a.stride) a.batch.now) (item_ready a.stride a.klen a.n a.c a.batch.now a.t.now y p.stride_nonzero.2 l.j l.held l.coming l.t c.loop-j-test.true l.invariant.0 l.invariant.1 p.stride_nonzero.1) in
-    record { klen_le_stride = whole.0; t_value = whole.1.0; bound = whole.1.1 }
+    let whole = item_ready a.stride a.klen a.n a.c a.batch.now a.t.now y p.stride_nonzero.2 l.j l.held l.coming l.t c.loop-j-test.true l.invariant.0 l.invariant.1 p.stride_nonzero.1 in
+    rw (item a.stride ((l.j - 1) * a.stride) a.batch.now) (record { klen_le_stride = whole.0; t_value = whole.1.0; bound = whole.1.1 })
 
 pub loop-j-smaller : goal.loop-j-smaller
 loop-j-smaller c = omega arith

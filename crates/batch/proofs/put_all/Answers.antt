@@ -35,8 +35,7 @@ put-requires c =
     let l = c.loop-i in
     let h = puts_hold a.stride a.klen a.n a.batch.now a.t.now p.stride_nonzero.0 p.stride_nonzero.2 p.t_value p.t_value_2 l.i l.invariant.0 l.t l.invariant.3 in
     let f = puts_fit a.stride a.klen a.n a.batch.now a.t.now p.stride_nonzero.0 p.stride_nonzero.2 p.t_value p.t_value_2 l.i c.loop-i-test.true l.from l.invariant.1 l.t l.invariant.3 in
-    let whole = rw (item a.stride l.from a.batch.now) ((p.stride_nonzero.0, p.stride_nonzero.1, length_part l.from a.stride a.batch.now (room)), (h.well, f)) in
-    record { stride_nonzero = whole.0; t_value = whole.1.0; t_value_2 = whole.1.1 }
+    rw (item a.stride l.from a.batch.now) (record { stride_nonzero = (p.stride_nonzero.0, p.stride_nonzero.1, length_part l.from a.stride a.batch.now room); t_value = h.well; t_value_2 = f })
 
 pub overflow_add-i : goal.overflow_add-i
 overflow_add-i c = omega arith

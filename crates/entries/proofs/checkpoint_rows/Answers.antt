@@ -5,6 +5,7 @@ use Rattle.entries.specs.Keys.{Checkpoints}
 use Rattle.entries.proofs.Pass.{rows_none, first_not, first_yes, next_not, below_not, next_yes, rows_end}
 use mathlib.Core.Path.{ap}
 use mathlib.Core.Bool.{not}
+use borrow.Author.Tests.{not-false}
 use Rattle.entries.proofs.checkpoint_rows.Goals as goal
 
 pub returns-then-n-eq0 : goal.returns-then-n-eq0
@@ -14,12 +15,12 @@ pub checkpoint_row-last-requires : goal.checkpoint_row-last-requires
 checkpoint_row-last-requires c = omega arith
 
 pub returns-then-not-last : goal.returns-then-not-last
-returns-then-not-last c = first_not Checkpoints c.args.s.now (λ j. (c.type_inv.s j).fits) c.args.n (omega arith) c.checkpoint_row-last.result c.checkpoint_row-last.ensures (ap not c.if-not-last.true)
+returns-then-not-last c = first_not Checkpoints c.args.s.now (λ j. (c.type_inv.s j).fits) c.args.n (omega arith) c.checkpoint_row-last.result c.checkpoint_row-last.ensures c.if-not-last.true
 
 pub loop-i-init : goal.loop-i-init
 loop-i-init c =
     let a = c.args in
-    (omega arith, omega arith, c.checkpoint_row-last.ensures, c.if-not-last.false, first_yes Checkpoints a.s.now (λ j. (c.type_inv.s j).fits) a.n (omega arith) c.checkpoint_row-last.result c.checkpoint_row-last.ensures (ap not c.if-not-last.false))
+    (omega arith, omega arith, c.checkpoint_row-last.ensures, not-false _ c.if-not-last.false, first_yes Checkpoints a.s.now (λ j. (c.type_inv.s j).fits) a.n (omega arith) c.checkpoint_row-last.result c.checkpoint_row-last.ensures c.if-not-last.false)
 
 pub overflow_add-next : goal.overflow_add-next
 overflow_add-next c = omega arith
@@ -31,13 +32,13 @@ pub returns-then-not-row : goal.returns-then-not-row
 returns-then-not-row c =
     let a = c.args in
     let l = c.loop-i in
-    next_not Checkpoints a.s.now (λ j. (c.type_inv.s j).fits) a.n l.i l.at c.loop-i-test.true l.invariant.4 c.checkpoint_row-row.result c.checkpoint_row-row.ensures (ap not c.if-not-row.true)
+    next_not Checkpoints a.s.now (λ j. (c.type_inv.s j).fits) a.n l.i l.at c.loop-i-test.true l.invariant.4 c.checkpoint_row-row.result c.checkpoint_row-row.ensures c.if-not-row.true
 
 pub returns-then-not-below : goal.returns-then-not-below
 returns-then-not-below c =
     let a = c.args in
     let l = c.loop-i in
-    below_not Checkpoints a.s.now (λ j. (c.type_inv.s j).fits) a.n l.i l.at c.loop-i-test.true l.invariant.4 c.checkpoint_row-row.result c.checkpoint_row-row.ensures (ap not c.if-not-row.false) l.last l.invariant.2 l.invariant.3 (omega arith) _ c.below.ensures (ap not c.if-not-below.true)
+    below_not Checkpoints a.s.now (λ j. (c.type_inv.s j).fits) a.n l.i l.at c.loop-i-test.true l.invariant.4 c.checkpoint_row-row.result c.checkpoint_row-row.ensures c.if-not-row.false l.last l.invariant.2 l.invariant.3 (omega arith) _ c.below.ensures (ap not c.if-not-below.true)
 
 pub overflow_add-i : goal.overflow_add-i
 overflow_add-i c = omega arith
@@ -52,8 +53,8 @@ loop-i-preserved c =
       omega arith,
       omega arith,
       c.checkpoint_row-row.ensures,
-      c.if-not-row.false,
-      next_yes Checkpoints a.s.now (λ j. (c.type_inv.s j).fits) a.n l.i l.at c.loop-i-test.true l.invariant.4 c.checkpoint_row-row.result c.checkpoint_row-row.ensures (ap not c.if-not-row.false) l.last l.invariant.2 l.invariant.3 (omega arith) _ c.below.ensures (ap not c.if-not-below.false),
+      not-false _ c.if-not-row.false,
+      next_yes Checkpoints a.s.now (λ j. (c.type_inv.s j).fits) a.n l.i l.at c.loop-i-test.true l.invariant.4 c.checkpoint_row-row.result c.checkpoint_row-row.ensures c.if-not-row.false l.last l.invariant.2 l.invariant.3 (omega arith) _ c.below.ensures (ap not c.if-not-below.false),
     )
 
 pub returns : goal.returns

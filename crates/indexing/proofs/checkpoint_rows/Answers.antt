@@ -6,7 +6,7 @@ use Rattle.indexing.proofs.checkpoint_rows.Goals as goal
 pub loop-i-init : goal.loop-i-init
 loop-i-init c =
     let long : length c.args.log ≡ 16 = search rules in
-    (omega arith, search rules, stored_none c.args.log (long (c)) c.args.lsns _)
+    (omega arith, search rules, stored_none c.args.log (long) c.args.lsns _)
 
 pub offset_bounds-lsns-i : goal.offset_bounds-lsns-i
 offset_bounds-lsns-i c = omega arith

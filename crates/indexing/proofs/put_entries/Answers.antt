@@ -86,7 +86,7 @@ loop-n-preserved c =
     let m = c.merge_next-left in
     let row = c.entry_key-row.result in
     let q = stepped in (
-      omega (arith, m.auto.0, l.invariant.0),
+      omega (arith, m.auto.t, l.invariant.0),
       q.1,
       entering_turn row (row_of row c.entry_key-row.ensures) a.fresh (pages_left a.set.windows a.set.len zero_window) a.t.now (ready row c.entry_key-row.ensures)
           (pages_left a.set.windows l.i l.w) (pages_left a.set.windows d.result.windows d.result.rest) d.result.page q.0

@@ -35,7 +35,7 @@ pub loop-i-preserved : goal.loop-i-preserved
 loop-i-preserved c =
     let long : length c.args.path ≡ 8 = search rules in
     let few = run_few c.args.commits.now c.requires.0 _ c.places_of-run.result.from c.places_of-run.result.to c.places_of-run.ensures in
-    let size = long (c) in (
+    let size = long in (
       omega arith,
       ap (λ (m : ℕ). c.loop-i.n + m) (run_number c.args.commits.now c.requires.0 _ c.places_of-run.result.from c.places_of-run.result.to c.places_of-run.ensures) ∙ turn_count c.args.commits.now c.args.path c.loop-i.i _ c.loop-i.n c.loop-i.invariant.1 (omega arith),
       omega arith,

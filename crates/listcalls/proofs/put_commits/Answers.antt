@@ -20,7 +20,7 @@ bounds-path-i c = omega arith
 pub put_range-k-requires : goal.put_range-k-requires
 put_range-k-requires c =
     let long : length c.args.path ≡ 8 = search rules in
-    let size = long (c) in
+    let size = long in
     (c.requires.0, turn_room c.args.commits.now c.args.path c.loop-i.i _ c.loop-i.k c.loop-i.invariant.1 c.args.len _ (omega arith) (omega arith) (omega arith))
 
 pub overflow_add-i : goal.overflow_add-i
@@ -32,7 +32,7 @@ loop-i-smaller c = omega arith
 pub loop-i-preserved : goal.loop-i-preserved
 loop-i-preserved c =
     let long : length c.args.path ≡ 8 = search rules in
-    let size = long (c) in (
+    let size = long in (
       omega arith,
       c.put_range-k.ensures.0 ∙ turn_count c.args.commits.now c.args.path c.loop-i.i _ c.loop-i.k c.loop-i.invariant.1 (omega arith),
       search rules,

@@ -9,4 +9,4 @@ pub returns : goal.returns
 returns c =
     let a = c.args in
     let p = c.put_windows-w in
-    set_put_lem a.to (given (windows_at a.n a.at a.s.now) a.masks.now) p.result a.list.now _ _ _ p.ensures.0.0 (omega arith) (omega arith) p.ensures.1 c.put_zeros.ensures c.store8.ensures
+    set_put_lem a.to (given (windows_at a.n a.at a.s.now) a.masks.now) p.result a.list.now _ _ _ p.ensures.value.0 (omega arith) (omega arith) p.ensures.list_after c.put_zeros.ensures c.store8.ensures

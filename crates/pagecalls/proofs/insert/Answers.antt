@@ -26,7 +26,7 @@ returns-then-sum-ne0 c = let s = c.args.s in
     let p = c.args.p.0 in
     let one = c.single.result in
     let same : (q : ℕ) → (member s q || member one q) ≡ (member s q || eqb q p) = λ q. ap (λ (b : Bool). member s q || b) (c.single.ensures.pages q) in
-    let rule = passed _ (normal s) 3 (so _ (normal s) c.is_normal.ensures (ap not c.if-not-is_normal.false)) ∙ zero_passed _ p c.if-p-eq0.false in record { gives_or22 = gives_or_22 _ _ _ rule (only_22 (λ q. member s q || member one q) (λ q. member s q || eqb q p) same c.union-sum.result c.union-sum.ensures c.if-sum-ne0.true _ c.not_inserted-then-sum-ne0.ensures.0); result_after = (new_refused s p _ _ 22 c.not_inserted-then-sum-ne0.ensures.1 (ap (λ (r : SetAnswer). r.code) c.not_inserted-then-sum-ne0.ensures.0) (λ e. omega arith), ) }
+    let rule = passed _ (normal s) 3 (so _ (normal s) c.is_normal.ensures (ap not c.if-not-is_normal.false)) ∙ zero_passed _ p c.if-p-eq0.false in record { gives_or22 = gives_or_22 _ _ _ rule (only_22 (λ q. member s q || member one q) (λ q. member s q || eqb q p) same c.union-sum.result c.union-sum.ensures c.if-sum-ne0.true _ c.not_inserted-then-sum-ne0.ensures.0); result_after = (new_refused s p _ _ 22 c.not_inserted-then-sum-ne0.ensures.1 (ap (λ (r : SetAnswer). r.code) c.not_inserted-then-sum-ne0.ensures.0) (λ e. omega arith)) }
 
 pub contains-new-requires : goal.contains-new-requires
 contains-new-requires c = let s = c.args.s in so _ (normal s) c.is_normal.ensures (ap not c.if-not-is_normal.false)
@@ -37,4 +37,4 @@ returns c = let s = c.args.s in
     let p = c.args.p.0 in
     let one = c.single.result in
     let same : (q : ℕ) → (member s q || member one q) ≡ (member s q || eqb q p) = λ q. ap (λ (b : Bool). member s q || b) (c.single.ensures.pages q) in
-    let rule = passed _ (normal s) 3 (so _ (normal s) c.is_normal.ensures (ap not c.if-not-is_normal.false)) ∙ zero_passed _ p c.if-p-eq0.false in record { gives_or22 = gives_or_22 _ _ _ rule (only_set (λ q. member s q || member one q) (λ q. member s q || eqb q p) same c.union-sum.result c.union-sum.ensures c.if-sum-ne0.false); result_after = (new_done s p c.contains-new.result c.contains-new.ensures, ) }
+    let rule = passed _ (normal s) 3 (so _ (normal s) c.is_normal.ensures (ap not c.if-not-is_normal.false)) ∙ zero_passed _ p c.if-p-eq0.false in record { gives_or22 = gives_or_22 _ _ _ rule (only_set (λ q. member s q || member one q) (λ q. member s q || eqb q p) same c.union-sum.result c.union-sum.ensures c.if-sum-ne0.false); result_after = (new_done s p c.contains-new.result c.contains-new.ensures) }

@@ -29,5 +29,5 @@ returns-in-Drop c = let whole = recover_dropped c.args.volumes.now c.args.commit
     record { value = whole.0; volumes_after = whole.1.0; commits_after = whole.1.1.0; checkpoints_after = whole.1.1.1.0; index_after = whole.1.1.1.1 }
 
 pub returns-in-Push : goal.returns-in-Push
-returns-in-Push c = let whole = recover_stored c.args.volumes.now c.args.commits.now c.args.checkpoints.now c.args.index.now c.args.vid (sym c.push_formed.ensures ∙ c.if-not-push_formed.false) c.recover_plan.result c.recover_plan.ensures _ _ c.in-Push.is _ c.commit_copy-row.ensures _ _ _ _ c.push_stored.ensures.pushed_at c.push_stored.ensures.commits_after in
+returns-in-Push c = let whole = recover_stored c.args.volumes.now c.args.commits.now c.args.checkpoints.now c.args.index.now c.args.vid (sym c.push_formed.ensures ∙ c.if-not-push_formed.false) c.recover_plan.result c.recover_plan.ensures _ _ c.in-Push.is _ c.commit_copy-row.ensures _ _ _ _ c.push_stored.ensures.pushed_at (c.push_stored.ensures.commits_after, (c.push_stored.ensures.checkpoints_after, c.push_stored.ensures.index_after)) in
     record { value = whole.0; volumes_after = whole.1.0; commits_after = whole.1.1.0; checkpoints_after = whole.1.1.1.0; index_after = whole.1.1.1.1 }

@@ -46,7 +46,7 @@ pub store16-requires : goal.store16-requires
 store16-requires c =
     let sized : let a = c.args in 2 + a.i * a.stride + a.stride + (c.count-n.result - a.i) * a.stride ≤ length a.t.now = let a = c.args in
     insert_size a.stride a.t.now a.i c.requires.0 c.count-n.result c.count-n.ensures.0 c.requires.1 c.requires.2 in
-    omega (arith, sized, c.move_up.auto.s, c.store_all.auto.0)
+    omega (arith, sized, c.move_up.auto.s, c.store_all.auto.s)
 
 pub returns : goal.returns
 returns c =

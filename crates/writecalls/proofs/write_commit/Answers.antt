@@ -4,8 +4,7 @@ use Rattle.writecalls.proofs.write_commit.Goals as goal
 
 pub returns-then-number-ne0 : goal.returns-then-number-ne0
 returns-then-number-ne0 c =
-    let start : tie.Start = c in
-    let refusal : let a = (start).args in Left a.commits.now a.checkpoints.now a.index.now a.commits.now a.checkpoints.now a.index.now c.write_plan-plan.result.number (answer a.commits.now a.checkpoints.now a.index.now a.c.now) = let a = (start).args in
+    let refusal : let a = c.args in Left a.commits.now a.checkpoints.now a.index.now a.commits.now a.checkpoints.now a.index.now c.write_plan-plan.result.number (answer a.commits.now a.checkpoints.now a.index.now a.c.now) = let a = c.args in
     let p = c.write_plan-plan in
     unchanged a.commits.now a.checkpoints.now a.index.now p.result.number _ (number_is a.commits.now a.checkpoints.now a.index.now a.c.now p.result p.ensures) c.if-number-ne0.true in
     let whole = refusal in
@@ -13,21 +12,19 @@ returns-then-number-ne0 c =
 
 pub write_fresh-requires : goal.write_fresh-requires
 write_fresh-requires c =
-    let start : tie.Start = c in
-    let all_passed : let a = (start).args in Passed a.commits.now a.checkpoints.now a.index.now a.c.now = let a = (start).args in
+    let all_passed : let a = c.args in Passed a.commits.now a.checkpoints.now a.index.now a.c.now = let a = c.args in
     let p = c.write_plan-plan in
     plan_passed a.commits.now a.checkpoints.now a.index.now a.c.now p.result p.ensures c.if-number-ne0.false in
-    let a = (start).args in
+    let a = c.args in
     let p = c.write_plan-plan in
     let q = all_passed in record { commits_value = q.forms; commit = q.commit; c_value = q.room; fresh_value = fresh_passed a.commits.now a.checkpoints.now a.index.now a.c.now p.result p.ensures c.if-number-ne0.false }
 
 pub returns : goal.returns
 returns c =
-    let start : tie.Start = c in
-    let all_passed : let a = (start).args in Passed a.commits.now a.checkpoints.now a.index.now a.c.now = let a = (start).args in
+    let all_passed : let a = c.args in Passed a.commits.now a.checkpoints.now a.index.now a.c.now = let a = c.args in
     let p = c.write_plan-plan in
     plan_passed a.commits.now a.checkpoints.now a.index.now a.c.now p.result p.ensures c.if-number-ne0.false in
-    let a = (start).args in
+    let a = c.args in
     let w = c.write_fresh in
-    let whole = changed a.commits.now a.checkpoints.now a.index.now _ _ (all_passed).answers _ _ _ w.ensures.0 w.ensures.1.0 w.ensures.1.1 in
+    let whole = changed a.commits.now a.checkpoints.now a.index.now _ _ all_passed.answers _ _ _ w.ensures.commits_after w.ensures.checkpoints_after w.ensures.index_after in
     record { value = whole.0; commits_after = whole.1.0; checkpoints_after = whole.1.1.0; index_after = whole.1.1.1 }

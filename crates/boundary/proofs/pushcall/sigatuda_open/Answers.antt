@@ -4,4 +4,8 @@ use Rattle.arguments.specs.Replies.{numbered_reply}
 use Rattle.boundary.proofs.pushcall.sigatuda_open.Goals as goal
 
 pub returns : goal.returns
-returns c = (c.numbered.ensures ∙ ap numbered_reply c.open.ensures.value, c.open.ensures.volumes_after)
+returns c = record {
+    value = c.numbered.ensures ∙ ap numbered_reply c.open.ensures.value;
+    volumes_after = c.open.ensures.volumes_after;
+    out_after = c.open.ensures.out_after;
+}

@@ -4,4 +4,10 @@ use Rattle.arguments.specs.Replies.{numbered_reply}
 use Rattle.boundary.proofs.pushcall.sigatuda_recover.Goals as goal
 
 pub returns : goal.returns
-returns c = (c.numbered.ensures ∙ ap numbered_reply c.recover.ensures.value, c.recover.ensures.volumes_after)
+returns c = record {
+    value = c.numbered.ensures ∙ ap numbered_reply c.recover.ensures.value;
+    volumes_after = c.recover.ensures.volumes_after;
+    commits_after = c.recover.ensures.commits_after;
+    checkpoints_after = c.recover.ensures.checkpoints_after;
+    index_after = c.recover.ensures.index_after;
+}

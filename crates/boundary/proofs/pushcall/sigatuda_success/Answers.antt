@@ -4,4 +4,10 @@ use Rattle.arguments.specs.Replies.{numbered_reply}
 use Rattle.boundary.proofs.pushcall.sigatuda_success.Goals as goal
 
 pub returns : goal.returns
-returns c = (c.numbered.ensures ∙ ap numbered_reply c.success.ensures.value, c.success.ensures.volumes_after)
+returns c = record {
+    value = c.numbered.ensures ∙ ap numbered_reply c.success.ensures.value;
+    volumes_after = c.success.ensures.volumes_after;
+    commits_after = c.success.ensures.commits_after;
+    checkpoints_after = c.success.ensures.checkpoints_after;
+    index_after = c.success.ensures.index_after;
+}

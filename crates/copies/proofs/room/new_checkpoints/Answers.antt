@@ -16,7 +16,7 @@ pub overflow_sub-k : goal.overflow_sub-k
 overflow_sub-k c = omega arith
 
 pub new_checkpoints_of-total-requires : goal.new_checkpoints_of-total-requires
-new_checkpoints_of-total-requires c = record { commits_value = (c.requires.commits_value.0, c.requires.commits_value.1, c.next_commit-met.ensures.inside); is_left = ((c.next_commit-met.ensures.is_left, one_fewer c.args.commits.now c.loop-k.rest c.loop-k.k c.loop-k.invariant.1 c.next_commit-met.result c.next_commit-met.ensures (c.loop-k.k - 1) (omega arith)), ) }
+new_checkpoints_of-total-requires c = record { commits_value = (c.requires.commits_value.0, c.requires.commits_value.1, c.next_commit-met.ensures.inside); is_left = ((c.next_commit-met.ensures.is_left, one_fewer c.args.commits.now c.loop-k.rest c.loop-k.k c.loop-k.invariant.1 c.next_commit-met.result c.next_commit-met.ensures (c.loop-k.k - 1) (omega arith))) }
 
 pub overflow_add-total : goal.overflow_add-total
 overflow_add-total c =

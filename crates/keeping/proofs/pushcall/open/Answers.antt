@@ -15,9 +15,9 @@ returns c =
     let spare_local_typed : id_form c.args.spare_local ≡ true = id_form_lem c.args.spare_local (search rules) (λ j. let f : Fits w8 (get_or c.args.spare_local j 0) = search rules in f.fits) in
     let spare_remote_typed : id_form c.args.spare_remote ≡ true = id_form_lem c.args.spare_remote (search rules) (λ j. let f : Fits w8 (get_or c.args.spare_remote j 0) = search rules in f.fits) in
     let g = c.args in
-    let v = wanted_by g.has-vid g.vid g.spare_vid in
-    let l = wanted_by g.has-local g.local g.spare_local in
-    let r = wanted_by g.has-remote g.remote g.spare_remote in
+    let v = wanted_by g.has_vid g.vid g.spare_vid in
+    let l = wanted_by g.has_local g.local g.spare_local in
+    let r = wanted_by g.has_remote g.remote g.spare_remote in
     let whole = open_keeps g.volumes.now _ g.commits.now (asked v l r) (spares v l r) g.out.now
     (open_typed v.asked l.asked r.asked g.vid g.local g.remote g.spare_vid g.spare_local g.spare_remote (vid_typed) (local_typed) (remote_typed) (spare_vid_typed) (spare_local_typed) (spare_remote_typed)) c.sigatuda_open.ensures.volumes_after in
     record { keeps = whole.0; stays_formed = whole.1 }

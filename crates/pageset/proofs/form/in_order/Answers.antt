@@ -17,17 +17,17 @@ bounds-ws-i c = omega arith
 pub returns-then-w-lo : goal.returns-then-w-lo
 returns-then-w-lo c =
     let long : c.args.s.len ≤ length c.args.s.windows = omega (arith, long_of c.args.s _ c.well_formed.0, c.requires) in
-    sym (order_low c.args.s (long c) c.loop-i.i c.loop-i.lo (omega arith) c.if-w-lo.true) ∙ c.loop-i.invariant.1
+    sym (order_low c.args.s (long) c.loop-i.i c.loop-i.lo (omega arith) c.if-w-lo.true) ∙ c.loop-i.invariant.1
 
 pub returns-then-w-gt67108863 : goal.returns-then-w-gt67108863
 returns-then-w-gt67108863 c =
     let long : c.args.s.len ≤ length c.args.s.windows = omega (arith, long_of c.args.s _ c.well_formed.0, c.requires) in
-    sym (order_high c.args.s (long c) c.loop-i.i c.loop-i.lo (omega arith) (omega arith)) ∙ c.loop-i.invariant.1
+    sym (order_high c.args.s (long) c.loop-i.i c.loop-i.lo (omega arith) (omega arith)) ∙ c.loop-i.invariant.1
 
 pub returns-then-w-eq0 : goal.returns-then-w-eq0
 returns-then-w-eq0 c =
     let long : c.args.s.len ≤ length c.args.s.windows = omega (arith, long_of c.args.s _ c.well_formed.0, c.requires) in
-    sym (order_empty c.args.s (long c) c.loop-i.i c.loop-i.lo (omega arith) c.if-w-eq0.true) ∙ c.loop-i.invariant.1
+    sym (order_empty c.args.s (long) c.loop-i.i c.loop-i.lo (omega arith) c.if-w-eq0.true) ∙ c.loop-i.invariant.1
 
 pub overflow_add-lo : goal.overflow_add-lo
 overflow_add-lo c = omega arith
@@ -41,9 +41,9 @@ loop-i-smaller c = omega arith
 pub loop-i-preserved : goal.loop-i-preserved
 loop-i-preserved c =
     let long : c.args.s.len ≤ length c.args.s.windows = omega (arith, long_of c.args.s _ c.well_formed.0, c.requires) in
-    (omega arith, sym (order_step c.args.s (long c) c.loop-i.i c.loop-i.lo (omega arith) (omega arith) (omega arith) (omega arith) (omega arith)) ∙ c.loop-i.invariant.1)
+    (omega arith, sym (order_step c.args.s (long) c.loop-i.i c.loop-i.lo (omega arith) (omega arith) (omega arith) (omega arith) (omega arith)) ∙ c.loop-i.invariant.1)
 
 pub returns : goal.returns
 returns c =
     let long : c.args.s.len ≤ length c.args.s.windows = omega (arith, long_of c.args.s _ c.well_formed.0, c.requires) in
-    sym (order_end c.args.s (long c) c.loop-i.i c.loop-i.lo (omega arith)) ∙ c.loop-i.invariant.1
+    sym (order_end c.args.s (long) c.loop-i.i c.loop-i.lo (omega arith)) ∙ c.loop-i.invariant.1

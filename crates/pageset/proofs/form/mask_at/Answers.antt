@@ -16,7 +16,7 @@ bounds-ws-i c = omega arith
 pub returns-then-w-q : goal.returns-then-w-q
 returns-then-w-q c =
     let long : c.args.s.len ≤ length c.args.s.windows = omega (arith, long_of c.args.s _ c.well_formed.0, c.requires) in
-    found c.args.s (long c) c.loop-i.i c.args.q c.loop-i.invariant.1 (omega arith) c.if-w-q.true
+    found c.args.s (long) c.loop-i.i c.args.q c.loop-i.invariant.1 (omega arith) c.if-w-q.true
 
 pub overflow_add-i : goal.overflow_add-i
 overflow_add-i c = omega arith
@@ -27,9 +27,9 @@ loop-i-smaller c = omega arith
 pub loop-i-preserved : goal.loop-i-preserved
 loop-i-preserved c =
     let long : c.args.s.len ≤ length c.args.s.windows = omega (arith, long_of c.args.s _ c.well_formed.0, c.requires) in
-    (omega arith, passed c.args.s (long c) c.loop-i.i c.args.q c.loop-i.invariant.1 (omega arith) c.if-w-q.false)
+    (omega arith, passed c.args.s (long) c.loop-i.i c.args.q c.loop-i.invariant.1 (omega arith) c.if-w-q.false)
 
 pub returns : goal.returns
 returns c =
     let long : c.args.s.len ≤ length c.args.s.windows = omega (arith, long_of c.args.s _ c.well_formed.0, c.requires) in
-    missed c.args.s (long c) c.loop-i.i c.args.q c.loop-i.invariant.1 (omega arith)
+    missed c.args.s (long) c.loop-i.i c.args.q c.loop-i.invariant.1 (omega arith)

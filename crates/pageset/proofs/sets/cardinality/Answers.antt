@@ -24,8 +24,8 @@ bounds-ws-i c =
 pub overflow_add-total : goal.overflow_add-total
 overflow_add-total c =
     let its : Normal c.args.s = normal_fact c.args.s c.requires in
-    let n = shown_at c.args.s (its c) c.loop-i.i (omega arith) in
-    omega (arith, ones-le 64 (get_or c.args.s.windows c.loop-i.i zero_window).mask n.fits, (its c).tidy.short)
+    let n = shown_at c.args.s (its) c.loop-i.i (omega arith) in
+    omega (arith, ones-le 64 (get_or c.args.s.windows c.loop-i.i zero_window).mask n.fits, (its).tidy.short)
 
 pub overflow_add-i : goal.overflow_add-i
 overflow_add-i c = omega arith
@@ -36,13 +36,13 @@ loop-i-smaller c = omega arith
 pub loop-i-preserved : goal.loop-i-preserved
 loop-i-preserved c =
     let its : Normal c.args.s = normal_fact c.args.s c.requires in
-    let n = shown_at c.args.s (its c) c.loop-i.i (omega arith) in (
+    let n = shown_at c.args.s (its) c.loop-i.i (omega arith) in (
       omega arith,
       omega (arith, ones-le 64 (get_or c.args.s.windows c.loop-i.i zero_window).mask n.fits),
-      tally_step c.args.s (its c) c.loop-i.i c.loop-i.total c.loop-i.invariant.2 (omega arith),
+      tally_step c.args.s (its) c.loop-i.i c.loop-i.total c.loop-i.invariant.2 (omega arith),
     )
 
 pub returns : goal.returns
 returns c =
     let its : Normal c.args.s = normal_fact c.args.s c.requires in
-    tally_end c.args.s (its c) c.loop-i.i c.loop-i.total c.loop-i.invariant.2 (omega arith)
+    tally_end c.args.s (its) c.loop-i.i c.loop-i.total c.loop-i.invariant.2 (omega arith)

@@ -25,7 +25,7 @@ bounds-from-i c = omega arith
 pub span_mask-requires : goal.span_mask-requires
 span_mask-requires c =
     let its : Normal c.args.s = normal_fact c.args.s c.requires.s_value in
-    record { q_bound = rises_at c.args.s (its c) c.loop-i.i (omega arith); lo_nonzero = omega arith }
+    record { q_bound = rises_at c.args.s (its) c.loop-i.i (omega arith); lo_nonzero = omega arith }
 
 pub picked-m-requires : goal.picked-m-requires
 picked-m-requires c = omega arith
@@ -61,7 +61,7 @@ loop-i-preserved c =
     c.picked-m.ensures ∙ side_picked c.args.inside m k ((2 ^ 64 - 1) - k)
     ∙ ap (λ (z : ℕ). bit_and m (cond c.args.inside z ((2 ^ 64 - 1) - z))) c.span_mask.ensures in
     let w : Walked (side_mask c.args.inside c.args.lo c.args.hi) (shown c.args.s) (i + 1) (made (c.loop-i.n + c.one_if-n.result) (set c.loop-i.ws c.loop-i.n c.window_of.result)) =
-    walk_step (side_mask c.args.inside c.args.lo c.args.hi) c.args.s (its c).tidy i c.loop-i.n c.loop-i.ws (omega arith) c.loop-i.invariant.3
+    walk_step (side_mask c.args.inside c.args.lo c.args.hi) c.args.s (its).tidy i c.loop-i.n c.loop-i.ws (omega arith) c.loop-i.invariant.3
     c.picked-m.result
     e
     c.window_of.result c.window_of.ensures c.one_if-n.result c.one_if-n.ensures.0 in
@@ -71,6 +71,6 @@ pub returns : goal.returns
 returns c =
     let its : Normal c.args.s = normal_fact c.args.s c.requires.s_value in
     let g = side_mask c.args.inside c.args.lo c.args.hi in
-    is_set _ _ (walk_normal g c.args.s (its c) c.loop-i.i (made c.loop-i.n c.loop-i.ws) (omega arith) c.loop-i.invariant.3)
-    (λ p. walk_member g c.args.s (its c) c.loop-i.i (made c.loop-i.n c.loop-i.ws) (omega arith) c.loop-i.invariant.3 p
+    is_set _ _ (walk_normal g c.args.s (its) c.loop-i.i (made c.loop-i.n c.loop-i.ws) (omega arith) c.loop-i.invariant.3)
+    (λ p. walk_member g c.args.s (its) c.loop-i.i (made c.loop-i.n c.loop-i.ws) (omega arith) c.loop-i.invariant.3 p
     ∙ ap (λ (b : Bool). member c.args.s p && b) (side_page c.args.inside c.args.lo c.args.hi c.requires.lo_nonzero p))

@@ -8,11 +8,7 @@ unfolding changed
 returns-in_default c = cc
 
 pub returns-then-b-h : goal.returns-then-b-h
-returns-then-b-h c =
-    let h = c.head-1.given in
-    rw h.1 (below _ _ c.if-b-h.true)
+returns-then-b-h c = rw c.in-At.is (below _ _ c.if-b-h.true)
 
 pub returns : goal.returns
-returns c =
-    let h = c.head-1.given in
-    rw h.1 (not_below _ _ c.if-b-h.false)
+returns c = rw c.in-At.is (not_below _ _ c.if-b-h.false)
