@@ -26,8 +26,7 @@ fn flagged_lsn(flag: u32, lsn: u64) -> MaybeLsn
 }
 
 // The LSNs above the base up to the head, or nothing; a flag 0 says that the base or the head is missing: 1, 16.
-#[unsafe(no_mangle)]
-pub extern "C" fn sigatuda_changes(
+pub fn sigatuda_changes(
     has_base: u32,
     base: u64,
     has_head: u32,
@@ -57,8 +56,7 @@ fn log_range(log: &[u8; 16], start: u64, end: u64) -> LogRange
 }
 
 // A snapshot of one range of a log: 1, 2, 3.
-#[unsafe(no_mangle)]
-pub extern "C" fn sigatuda_snapshot_new(
+pub fn sigatuda_snapshot_new(
     log: &[u8; 16],
     start: u64,
     end: u64,
@@ -74,8 +72,7 @@ pub extern "C" fn sigatuda_snapshot_new(
 }
 
 // A snapshot with a range more, the last of its path: 1, 2, 3.
-#[unsafe(no_mangle)]
-pub extern "C" fn sigatuda_snapshot_append(
+pub fn sigatuda_snapshot_append(
     snapshot: &[u8],
     log: &[u8; 16],
     start: u64,
@@ -92,12 +89,7 @@ pub extern "C" fn sigatuda_snapshot_append(
 }
 
 // The log and the end of the path's first range, or nothing: 1, 2, 3.
-#[unsafe(no_mangle)]
-pub extern "C" fn sigatuda_snapshot_head(
-    snapshot: &[u8],
-    log: &mut [u8; 16],
-    lsn: &mut u64,
-) -> Reply
+pub fn sigatuda_snapshot_head(snapshot: &[u8], log: &mut [u8; 16], lsn: &mut u64) -> Reply
     ensures { (result, (log.new, lsn.new)) ≡ value_or (λ h. h) (log.old, lsn.old) (head_in snapshot.now) }
 {
     let s = snapshot_arg(snapshot);
