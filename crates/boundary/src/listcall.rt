@@ -35,7 +35,7 @@ pub fn sigatuda_stored_lsns(
     list: &mut [u8],
     items: &mut u32,
 ) -> Reply
-    ensures { (result, (list.new, items.new)) ≡ list_left (number 8) list.old items.old (lent (commits_ok commits.now) (stored_lsns (commits_in commits.now) (slots_in (number 8) list.old) (record { log = log.entry.now; start = start; end = end }))) }
+    ensures { (result, (list.new, items.new)) ≡ list_left (number 8) list.old items.old (lent (commits_ok commits.now) (stored_lsns (commits_in commits.now) (slots_in (number 8) list.old) (record { log = log.now; start = start; end = end }))) }
 {
     let id = *log;
     listcalls::stored_lsns(commits, id, Lsn(start), Lsn(end), list, items)

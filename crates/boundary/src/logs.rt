@@ -45,7 +45,7 @@ pub fn sigatuda_changes(
 
 // A range of a log.
 fn log_range(log: &[u8; 16], start: u64, end: u64) -> LogRange
-    ensures { range_says result ≡ record { log = log.entry.now; start = start; end = end } }
+    ensures { range_says result ≡ record { log = log.now; start = start; end = end } }
 {
     let id = *log;
     LogRange {
@@ -63,7 +63,7 @@ pub fn sigatuda_snapshot_new(
     count: u32,
     out: &mut [u8],
 ) -> Reply
-    ensures { (result, out.new) ≡ snapshot_left out.old (snapshot_new (record { log = log.entry.now; start = start; end = end }) count) }
+    ensures { (result, out.new) ≡ snapshot_left out.old (snapshot_new (record { log = log.now; start = start; end = end }) count) }
 {
     put_snapshot(
         Snapshot::new(log_range(log, start, end), PageCount(count)),
@@ -79,7 +79,7 @@ pub fn sigatuda_snapshot_append(
     end: u64,
     out: &mut [u8],
 ) -> Reply
-    ensures { (result, out.new) ≡ snapshot_left out.old (append_in snapshot.now (record { log = log.entry.now; start = start; end = end })) }
+    ensures { (result, out.new) ≡ snapshot_left out.old (append_in snapshot.now (record { log = log.now; start = start; end = end })) }
 {
     let a = snapshot_arg(snapshot).append(log_range(log, start, end));
     if !snapshot_ok(snapshot) {

@@ -1,17 +1,22 @@
 // The call list program: reads lines on standard input and prints one line each. What a line does is proved in callstep, and what it prints in the module printed; here bytes are read, cut into lines and written.
 #![tactic(auto)]
+
 pub mod printed;
 
-ghost use Rattle.std.specs.Prelude.{◌≡◌, ◌+◌, ◌≤◌, length};
+ghost use Rattle.std.specs.Prelude.{◌≡◌, ◌+◌, ◌≤◌, IfOk, length};
 
 use crate::printed::step_printed;
 use callline::texts::piece_end;
 use calltext::LINE_ROOM;
 use callvalues::lines::keep;
-use libc::{STDIN_FILENO, STDOUT_FILENO};
+use std::io;
+use std::io::{Read, Write};
 
 // The bytes that may wait to be written.
 const OUT: usize = 8192;
+
+// The bytes that are read at a time.
+const BLOCK: usize = 4096;
 
 // Where reading stands: whether there may be more input, the bytes of a line that are kept, the lines that have ended.
 #[derive(Clone, Copy)]
@@ -22,19 +27,20 @@ struct Reading {
 }
 
 // Where the next printed line goes: behind the bytes that wait to be written, which are written first where there is no room for it.
-fn room(out: &[u8], waiting: usize) -> usize
+fn room(to: &mut impl Write, out: &[u8], waiting: usize) -> io::Result<usize>
     requires { (length out.now ≡ 8192) × (waiting ≤ 8192) }
-    ensures { result + 96 ≤ 8192 }
+    ensures { IfOk result (λ at. at + 96 ≤ 8192) }
 {
     if OUT - waiting < LINE_ROOM {
-        io::write_all(STDOUT_FILENO, &out[0..waiting]);
-        return 0;
+        to.write_all(&out[0..waiting])?;
+        return Ok(0);
     }
-    waiting
+    Ok(waiting)
 }
 
 // A line has ended: what it prints goes behind the bytes that wait to be written. Answers how many wait.
 fn line_ends(
+    to: &mut impl Write,
     volumes: &mut [u8],
     commits: &mut [u8],
     checkpoints: &mut [u8],
@@ -45,11 +51,11 @@ fn line_ends(
     number: u64,
     out: &mut [u8],
     waiting: usize,
-) -> usize
+) -> io::Result<usize>
     requires { (length slots.old ≡ 1052) × (length out.old ≡ 8192) × (waiting ≤ 8192) }
-    ensures { result ≤ 8192 }
+    ensures { IfOk result (λ waits. waits ≤ 8192) }
 {
-    let at = room(out, waiting);
+    let at = room(to, out, waiting)?;
     let n = step_printed(
         volumes,
         commits,
@@ -61,11 +67,12 @@ fn line_ends(
         number,
         &mut out[at..],
     );
-    at + n
+    Ok(at + n)
 }
 
 // The lines that end in a block of input, and what is kept of the last.
 fn block_lines(
+    to: &mut impl Write,
     volumes: &mut [u8],
     commits: &mut [u8],
     checkpoints: &mut [u8],
@@ -76,9 +83,9 @@ fn block_lines(
     block: &[u8],
     r: Reading,
     out: &mut [u8],
-) -> Reading
+) -> io::Result<Reading>
     requires { (length slots.old ≡ 1052) × (length kept.old ≡ 257) × (r.kept ≤ 257) × (length out.old ≡ 8192) }
-    ensures { result.kept ≤ 257 }
+    ensures { IfOk result (λ left. left.kept ≤ 257) }
 {
     let mut at: usize = 0;
     let mut n = r.kept;
@@ -92,6 +99,7 @@ fn block_lines(
             at = end + 1;
             number = std::num::wrapping_add_u64(number, 1);
             waiting = line_ends(
+                to,
                 volumes,
                 commits,
                 checkpoints,
@@ -102,20 +110,22 @@ fn block_lines(
                 number,
                 out,
                 waiting,
-            );
+            )?;
             n = 0;
         }
     }
-    io::write_all(STDOUT_FILENO, &out[0..waiting]);
-    Reading {
+    to.write_all(&out[0..waiting])?;
+    Ok(Reading {
         more: true,
         kept: n,
         lines: number,
-    }
+    })
 }
 
 // Reads once, and prints for each line that has ended; at the end of the input for a last line without newline too.
 fn turn(
+    from: &mut impl Read,
+    to: &mut impl Write,
     volumes: &mut [u8],
     commits: &mut [u8],
     checkpoints: &mut [u8],
@@ -124,17 +134,17 @@ fn turn(
     slots: &mut [u8],
     kept: &mut [u8],
     r: Reading,
-) -> Reading
+) -> io::Result<Reading>
     requires { (length slots.old ≡ 1052) × (length kept.old ≡ 257) × (r.kept ≤ 257) }
-    ensures { result.kept ≤ 257 }
+    ensures { IfOk result (λ left. left.kept ≤ 257) }
 {
     let mut out = [0u8; OUT];
-    let mut block = io::buffer();
-    let got = libc::read(STDIN_FILENO, &mut block);
-    let n = io::count(got, &block);
+    let mut block = [0u8; BLOCK];
+    let n = from.read(&mut block)?;
     if n == 0 {
         if 0 < r.kept {
             block_lines(
+                to,
                 volumes,
                 commits,
                 checkpoints,
@@ -145,15 +155,16 @@ fn turn(
                 b"\n",
                 r,
                 &mut out,
-            );
+            )?;
         }
-        return Reading {
+        return Ok(Reading {
             more: false,
             kept: 0,
             lines: r.lines,
-        };
+        });
     }
     block_lines(
+        to,
         volumes,
         commits,
         checkpoints,
@@ -167,8 +178,10 @@ fn turn(
     )
 }
 
-// Turn after turn, to the end of the input. A proved loop has to end, and nothing says that an input does: so the loop counts down from a number that no run uses up.
+// Turn after turn, to the end of the input. A proved loop has to end, and nothing says that an input does: so the loop counts turns, up to more than any run takes.
 fn run(
+    from: &mut impl Read,
+    to: &mut impl Write,
     volumes: &mut [u8],
     commits: &mut [u8],
     checkpoints: &mut [u8],
@@ -176,7 +189,7 @@ fn run(
     presence: &mut [u8],
     slots: &mut [u8],
     kept: &mut [u8],
-)
+) -> io::Result<()>
     requires { (length slots.old ≡ 1052) × (length kept.old ≡ 257) }
 {
     let mut r = Reading {
@@ -184,10 +197,10 @@ fn run(
         kept: 0,
         lines: 0,
     };
-    let mut turns = u64::MAX;
-    while 0 < turns {
-        turns -= 1;
+    for _ in 0..u64::MAX {
         r = turn(
+            from,
+            to,
             volumes,
             commits,
             checkpoints,
@@ -196,15 +209,18 @@ fn run(
             slots,
             kept,
             r,
-        );
+        )?;
         if !r.more {
-            return;
+            return Ok(());
         }
     }
+    Ok(())
 }
 
 // Empty tables of 4 volumes, 32 commits, 32 checkpoints, 512 index entries and 512 present pages, four unset slots, and no byte of a line. (No line names one of the 4 tags.)
-fn main() {
+fn main(rt: HostRuntime) -> io::Result<()> {
+    let mut input = rt.reader();
+    let mut output = io::writer(&rt);
     let mut volumes = [0u8; 470];
     let mut commits = [0u8; 23106];
     let mut checkpoints = [0u8; 802];
@@ -213,6 +229,8 @@ fn main() {
     let mut slots = [0u8; 1052];
     let mut kept = [0u8; 257];
     run(
+        &mut input,
+        &mut output,
         &mut volumes,
         &mut commits,
         &mut checkpoints,
@@ -220,5 +238,5 @@ fn main() {
         &mut presence,
         &mut slots,
         &mut kept,
-    );
+    )
 }

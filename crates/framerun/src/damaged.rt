@@ -1,6 +1,6 @@
 // Segments and ranges that are not in form: every call refuses each, in the order of the numbers.
-use commit::{Frame, SegmentIdx, SegmentRange};
 use basics::pageidx::PageIdx;
+use commit::{Frame, SegmentIdx, SegmentRange};
 use frames::BytesAnswer;
 use pageset::{PageSet, Window, sets};
 use plainframes::asked;

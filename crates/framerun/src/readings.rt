@@ -1,6 +1,6 @@
 // The bench readings P8 and P9, by their numbers: set {2,3,5,9}, frames (size 100, last 3), (50, 9).
-use commit::SegmentRange;
 use basics::pageidx::PageIdx;
+use commit::SegmentRange;
 use plainframes::plain::Plain;
 use plainframes::{asked, plain};
 use plainset::tally::Tally;

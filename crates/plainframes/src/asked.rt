@@ -1,10 +1,10 @@
 // The calls on frames, each answer against the lists.
 use crate::plain;
 use crate::plain::Plain;
-use commit::{Presence, RangeAnswer, SegmentRange};
 use basics::id;
 use basics::id::SegmentId;
 use basics::pageidx::PageIdx;
+use commit::{Presence, RangeAnswer, SegmentRange};
 use frames::BytesAnswer;
 use plainset::tally::Tally;
 use plainset::{held, said, tally};

@@ -1,8 +1,8 @@
 // Joining two ranges, each answer against lists of their pages.
 use crate::asked;
-use commit::{RangeAnswer, SegmentRange};
 use basics::id;
 use basics::id::SegmentId;
+use commit::{RangeAnswer, SegmentRange};
 use plainset::held::Held;
 use plainset::tally::Tally;
 use plainset::{held, naive, tally};

@@ -1,7 +1,7 @@
 // A segment as plain lists, and where its frames lie.
-use commit::{Frame, SegmentIdx};
 use basics::id::SegmentId;
 use basics::pageidx::PageIdx;
+use commit::{Frame, SegmentIdx};
 use plainset::held::Held;
 use plainset::{naive, random};
 use std::num;

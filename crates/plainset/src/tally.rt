@@ -1,6 +1,6 @@
 // Comparisons and differences, counted and written out.
-use libc::STDOUT_FILENO;
-use std::num;
+use std::io::Write;
+use std::{io, num};
 
 // How many answers were compared, and how many of them differed.
 #[derive(Clone, Copy)]
@@ -39,11 +39,9 @@ pub fn same_u32(t: Tally, got: u32, want: u32) -> Tally {
 }
 
 // Writes one line: what was compared, and both counts.
-pub fn report(name: &[u8], t: Tally) {
-    io::write_all(STDOUT_FILENO, name);
-    io::write_all(STDOUT_FILENO, b": ");
-    io::print_decimal(STDOUT_FILENO, t.compared);
-    io::write_all(STDOUT_FILENO, b" comparisons, ");
-    io::print_decimal(STDOUT_FILENO, t.differing);
-    io::write_all(STDOUT_FILENO, b" differences\n");
+pub fn report(to: &mut impl Write, name: &[u8], t: Tally) -> io::Result<()> {
+    to.write_all(name)?;
+    let compared = t.compared;
+    let differing = t.differing;
+    writeln!(to, ": {compared} comparisons, {differing} differences")
 }

@@ -3,6 +3,8 @@ use crate::record::{filled, replied};
 use arguments::Reply;
 use boundary::numbers;
 use octets::{load32, load64};
+use std::io;
+use std::io::Read;
 
 // One of the calls on an LSN.
 fn on_lsn(call: u32, n: u64, out: &mut u64) -> Reply {
@@ -15,18 +17,18 @@ fn on_lsn(call: u32, n: u64, out: &mut u64) -> Reply {
 }
 
 // Calls 1 to 4.
-fn lsns(call: u32, fd: i32) -> bool {
+fn lsns(call: u32, file: &mut impl Read) -> io::Result<bool> {
     let mut room = [0u8; 18];
-    if !filled(fd, &mut room) {
-        return false;
+    if !filled(file, &mut room)? {
+        return Ok(false);
     }
     let record: &[u8] = &room;
     let mut out: u64 = 0;
     let r = on_lsn(call, load64(record, 0), &mut out);
     if load64(record, 10) != out {
-        return false;
+        return Ok(false);
     }
-    replied(record, 8, r)
+    Ok(replied(record, 8, r))
 }
 
 // One of the calls on a page or a count.
@@ -41,24 +43,24 @@ fn on_page(call: u32, n: u32, out: &mut u32) -> Reply {
 }
 
 // Calls 5 to 9.
-fn pages(call: u32, fd: i32) -> bool {
+fn pages(call: u32, file: &mut impl Read) -> io::Result<bool> {
     let mut room = [0u8; 10];
-    if !filled(fd, &mut room) {
-        return false;
+    if !filled(file, &mut room)? {
+        return Ok(false);
     }
     let record: &[u8] = &room;
     let mut out: u32 = 0;
     let r = on_page(call, load32(record, 0), &mut out);
     if load32(record, 6) != out {
-        return false;
+        return Ok(false);
     }
-    replied(record, 4, r)
+    Ok(replied(record, 4, r))
 }
 
 // Whether the next record, of a call on numbers, is answered as it was.
-pub fn same(call: u32, fd: i32) -> bool {
+pub fn same(call: u32, file: &mut impl Read) -> io::Result<bool> {
     if call < 5 {
-        return lsns(call, fd);
+        return lsns(call, file);
     }
-    pages(call, fd)
+    pages(call, file)
 }

@@ -2,10 +2,23 @@
 ghost use Rattle.std.specs.Prelude.{◌+◌, ◌≤◌, length};
 
 use arguments::Reply;
+use std::io;
+use std::io::{ErrorKind, Read};
+
+// What a failed read says: no where the file ended, else the error.
+fn ended(error: io::Error) -> io::Result<bool> {
+    if error.kind() == ErrorKind::UnexpectedEof {
+        return Ok(false);
+    }
+    Err(error)
+}
 
 // Fills a record with the next bytes of the file; no where the file ends first.
-pub fn filled(fd: i32, bytes: &mut [u8]) -> bool {
-    io::read_full(fd, bytes) == bytes.len()
+pub fn filled(file: &mut impl Read, bytes: &mut [u8]) -> io::Result<bool> {
+    match file.read_exact(bytes) {
+        Ok(()) => Ok(true),
+        Err(error) => ended(error),
+    }
 }
 
 // A byte as a number.
@@ -14,12 +27,12 @@ fn wide(x: u8) -> u32 {
 }
 
 // The next record's call, or 0 at the end of the file.
-pub fn call(fd: i32) -> u32 {
+pub fn call(file: &mut impl Read) -> io::Result<u32> {
     let mut number = [0u8; 1];
-    if !filled(fd, &mut number) {
-        return 0;
+    if !filled(file, &mut number)? {
+        return Ok(0);
     }
-    wide(number[0])
+    Ok(wide(number[0]))
 }
 
 // Whether a reply is the recorded one: the number, then whether there is an answer.

@@ -4,74 +4,76 @@ ghost use Rattle.std.specs.Prelude.{◌≤◌, length};
 use crate::record::{filled, replied};
 use boundary::segments;
 use octets::{load32, load64};
+use std::io;
+use std::io::Read;
 
 // Call 24: the frame of a page.
-fn frame(fd: i32) -> bool {
+fn frame(file: &mut impl Read) -> io::Result<bool> {
     let mut room = [0u8; 1017];
-    if !filled(fd, &mut room) {
-        return false;
+    if !filled(file, &mut room)? {
+        return Ok(false);
     }
     let record: &[u8] = &room;
     let page = load32(record, 594);
     let mut out = [0u8; 417];
     let r = segments::sigatuda_frame_of_page(&record[0..594], page, &mut out);
     if !octets::same(record, 600, &out, 0, 417) {
-        return false;
+        return Ok(false);
     }
-    replied(record, 598, r)
+    Ok(replied(record, 598, r))
 }
 
 // Call 26: two ranges joined.
-fn join(fd: i32) -> bool {
+fn join(file: &mut impl Read) -> io::Result<bool> {
     let mut room = [0u8; 1253];
-    if !filled(fd, &mut room) {
-        return false;
+    if !filled(file, &mut room)? {
+        return Ok(false);
     }
     let record: &[u8] = &room;
     let mut out = [0u8; 417];
     let r = segments::sigatuda_join(&record[0..417], &record[417..834], &mut out);
     if !octets::same(record, 836, &out, 0, 417) {
-        return false;
+        return Ok(false);
     }
-    replied(record, 834, r)
+    Ok(replied(record, 834, r))
 }
 
 // Call 22: all frames of a segment, sixteen places lent.
-fn sixteen(fd: i32) -> bool {
+fn sixteen(file: &mut impl Read) -> io::Result<bool> {
     let mut room = [0u8; 7272];
-    if !filled(fd, &mut room) {
-        return false;
+    if !filled(file, &mut room)? {
+        return Ok(false);
     }
     let record: &[u8] = &room;
     let mut list = [0u8; 6672];
     let mut items: u32 = 0;
     let r = segments::sigatuda_frame_list(&record[0..594], &mut list, &mut items);
     if load32(record, 596) != items {
-        return false;
+        return Ok(false);
     }
     if !octets::same(record, 600, &list, 0, 6672) {
-        return false;
+        return Ok(false);
     }
-    replied(record, 594, r)
+    Ok(replied(record, 594, r))
 }
 
 // Call 23: all frames of a segment, four places lent.
-fn four(fd: i32) -> bool {
+fn four(file: &mut impl Read) -> io::Result<bool> {
     let mut room = [0u8; 2268];
-    if !filled(fd, &mut room) {
-        return false;
+    if !filled(file, &mut room)? {
+        return Ok(false);
     }
     let record: &[u8] = &room;
     let mut list = [0u8; 1668];
     let mut items: u32 = 0;
     let r = segments::sigatuda_frame_list(&record[0..594], &mut list, &mut items);
     if load32(record, 596) != items {
-        return false;
+        return Ok(false);
     }
     if !octets::same(record, 600, &list, 0, 1668) {
-        return false;
+        return Ok(false);
     }
-    replied(record, 594, r)
+    Ok(replied(record, 594, r))
 }
 
 // Bytes that tell their place: the pairs 0, 1, 2 and so on, two bytes each.
@@ -114,27 +116,27 @@ fn same_bytes(whole: &[u8], lent: &[u8]) -> bool
 }
 
 // Call 25: the bytes of a page's frame, of as many lent bytes as the record says.
-fn bytes(fd: i32) -> bool {
+fn bytes(file: &mut impl Read) -> io::Result<bool> {
     let mut room = [0u8; 624];
-    if !filled(fd, &mut room) {
-        return false;
+    if !filled(file, &mut room)? {
+        return Ok(false);
     }
     let record: &[u8] = &room;
     let n = load64(record, 598);
     if 4096 < n {
-        return false;
+        return Ok(false);
     }
     let all = places();
-    same_bytes(record, &all[0..n as usize])
+    Ok(same_bytes(record, &all[0..n as usize]))
 }
 
 // Whether the next record, of a call on segments, is answered as it was.
-pub fn same(call: u32, fd: i32) -> bool {
+pub fn same(call: u32, file: &mut impl Read) -> io::Result<bool> {
     match call {
-        22 => sixteen(fd),
-        23 => four(fd),
-        24 => frame(fd),
-        25 => bytes(fd),
-        _ => join(fd),
+        22 => sixteen(file),
+        23 => four(file),
+        24 => frame(file),
+        25 => bytes(file),
+        _ => join(file),
     }
 }

@@ -1,6 +1,8 @@
 // How many records were replayed and how many differed, by the kind of call.
 use plainset::tally;
 use plainset::tally::Tally;
+use std::io;
+use std::io::Write;
 
 // A tally for each kind.
 #[derive(Clone, Copy)]
@@ -42,9 +44,9 @@ pub fn counted(s: Sums, call: u32, same: bool) -> Sums {
 }
 
 // Writes a line for each kind.
-pub fn report(s: Sums) {
-    tally::report(b"LSNs, pages and counts", s.numbers);
-    tally::report(b"page sets", s.sets);
-    tally::report(b"frames and joins", s.segments);
-    tally::report(b"changes and snapshots", s.logs);
+pub fn report(to: &mut impl Write, s: Sums) -> io::Result<()> {
+    tally::report(to, b"LSNs, pages and counts", s.numbers)?;
+    tally::report(to, b"page sets", s.sets)?;
+    tally::report(to, b"frames and joins", s.segments)?;
+    tally::report(to, b"changes and snapshots", s.logs)
 }

@@ -25,7 +25,7 @@ pub returns-in-Malformed : goal.returns-in-Malformed
 returns-in-Malformed c = let a = c.args in refuses a.volumes.now a.commits.now a.checkpoints.now a.index.now a.presence.now a.slots.now a.line.now c.parse-call.result c.parse-call.ensures.result_value c.parse-call.ensures.placed c.in-Malformed.is c.coded.result c.coded.ensures
 
 pub returns-in-Open : goal.returns-in-Open
-returns-in-Open c = let a = c.args in opens a.volumes.now a.commits.now a.checkpoints.now a.index.now a.presence.now a.slots.now a.line.now c.parse-call.result c.parse-call.ensures.result_value c.parse-call.ensures.placed c.in-Open.vid c.in-Open.local c.in-Open.remote c.in-Open.is c.coded-in-Open.result c.«open».result c.coded-in-Open.ensures c.«open».ensures.0 _ c.«open».ensures.1
+returns-in-Open c = let a = c.args in opens a.volumes.now a.commits.now a.checkpoints.now a.index.now a.presence.now a.slots.now a.line.now c.parse-call.result c.parse-call.ensures.result_value c.parse-call.ensures.placed c.in-Open.vid c.in-Open.local c.in-Open.remote c.in-Open.is c.coded-in-Open.result c.«open».result c.coded-in-Open.ensures c.«open».ensures.value _ c.«open».ensures.volumes_after
 
 pub returns-in-Snap : goal.returns-in-Snap
 returns-in-Snap c = let a = c.args in snaps a.volumes.now a.commits.now a.checkpoints.now a.index.now a.presence.now a.slots.now a.line.now c.parse-call.result c.parse-call.ensures.result_value c.parse-call.ensures.placed c.in-Snap.vid c.in-Snap.slot c.in-Snap.is c.snap.result c.snap.ensures.result_value _ c.snap.ensures.slots_after
