@@ -37,7 +37,7 @@ pub extern "C" fn sigatuda_stored_lsns(
     list: &mut [u8],
     items: &mut u32,
 ) -> Reply
-    ensures { (result, (list.new, items.new)) ≡ list_left (number 8) list.old items.old (lent (commits_ok commits.now) (stored_lsns (commits_in commits.now) (slots_in (number 8) list.old) (record { log = log.entry.now; start = start; end = end }))) }
+    ensures { (result, (list.new, items.new)) ≡ list_left (number 8) list.old items.old (lent (commits_ok commits.now) (stored_lsns (commits_in commits.now) (slots_in (number 8) list.old) (record { log = log.now; start = start; end = end }))) }
 {
     boundary::listcall::sigatuda_stored_lsns(commits, log, start, end, list, items)
 }

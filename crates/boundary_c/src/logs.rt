@@ -32,7 +32,7 @@ pub extern "C" fn sigatuda_snapshot_new(
     count: u32,
     out: &mut [u8],
 ) -> Reply
-    ensures { (result, out.new) ≡ snapshot_left out.old (snapshot_new (record { log = log.entry.now; start = start; end = end }) count) }
+    ensures { (result, out.new) ≡ snapshot_left out.old (snapshot_new (record { log = log.now; start = start; end = end }) count) }
 {
     boundary::logs::sigatuda_snapshot_new(log, start, end, count, out)
 }
@@ -46,7 +46,7 @@ pub extern "C" fn sigatuda_snapshot_append(
     end: u64,
     out: &mut [u8],
 ) -> Reply
-    ensures { (result, out.new) ≡ snapshot_left out.old (append_in snapshot.now (record { log = log.entry.now; start = start; end = end })) }
+    ensures { (result, out.new) ≡ snapshot_left out.old (append_in snapshot.now (record { log = log.now; start = start; end = end })) }
 {
     boundary::logs::sigatuda_snapshot_append(snapshot, log, start, end, out)
 }
