@@ -1,6 +1,6 @@
 //! The local bookkeeping of handheld line testers, for a Rust host.
 //!
-//! The calls are proved Rattle code in the archive `libboundary.a`, which `rt staticlib boundary` writes; this crate links it and wraps
+//! The calls are proved Rattle code in the archive `libboundary.a`, which `host/archive` makes; this crate links it and wraps
 //! each of its functions. A call answers a value or a [`Refusal`], document 01's number with its words; a refused call changes nothing,
 //! but for recover's 8, which drops the pending commit.
 //! Values have one byte form each (docs/TABLES.md), and so have the six tables, whose memory the caller lends.

@@ -1,4 +1,4 @@
-//! The archive's functions, as the Rattle crate `boundary` exports them. `tests/declarations.rs` compares this file with that
+//! The archive's functions, as the Rattle crate `boundary_c` exports them. `tests/declarations.rs` compares this file with that
 //! crate's source, parameter by parameter.
 //!
 //! How Rattle's parameters cross: `&[u8]` and `&mut [u8]` are two, a pointer and a length; `&[u8; 16]`, `&[u8; 32]`, `&mut [u8; 16]`, `&mut u32`

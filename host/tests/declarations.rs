@@ -1,5 +1,6 @@
-//! `src/raw.rs` says what the Rattle crate `boundary` says: the same functions, with the same parameters in the same order.
-use std::collections::BTreeMap;
+//! `src/raw.rs` says what the Rattle crate `boundary_c` exports: the same functions, with the same parameters in the same order. And each export of
+//! `boundary_c` is the function of that name in `boundary`, on which the theorems stand: the same contract, in the same words, and a call of it.
+use std::collections::{BTreeMap, BTreeSet};
 use std::path::Path;
 
 /// A function: its parameters, each a name and a type, and what it answers.
@@ -62,10 +63,13 @@ fn crossed(name: &str, kind: &str) -> Vec<(String, String)> {
     }
 }
 
+/// What stands before each function that a Rattle crate exports under its own name.
+const EXPORT: &str = "#[unsafe(no_mangle)] pub extern \"C\" fn ";
+
 /// The functions that a Rattle source exports, as C sees them.
 fn exported(source: &str) -> BTreeMap<String, Signature> {
     let crossed = |(parameters, answer): Signature| (parameters.iter().flat_map(|(name, kind)| crossed(name, kind)).collect(), answer);
-    functions(source, "pub extern \"C\" fn ").into_iter().map(|(name, s)| (name, crossed(s))).collect()
+    functions(source, EXPORT).into_iter().map(|(name, s)| (name, crossed(s))).collect()
 }
 
 /// The functions that src/raw.rs declares.
@@ -73,25 +77,75 @@ fn declared() -> BTreeMap<String, Signature> {
     functions(include_str!("../src/raw.rs"), "pub(crate) fn ")
 }
 
-/// The source of the crate `boundary`, all its files together.
-fn boundary() -> String {
-    let folder = Path::new(env!("CARGO_MANIFEST_DIR")).join("../crates/boundary/src");
+/// The source files of a Rattle crate, by name.
+fn sources(name: &str) -> BTreeMap<String, String> {
+    let folder = Path::new(env!("CARGO_MANIFEST_DIR")).join("../crates").join(name).join("src");
     let files = std::fs::read_dir(&folder).unwrap_or_else(|e| panic!("{}: {e}", folder.display()));
     let mut paths: Vec<_> = files.map(|f| f.unwrap().path()).collect();
     paths.retain(|p| p.extension().is_some_and(|e| e == "rt"));
-    paths.sort();
-    paths.iter().map(|p| std::fs::read_to_string(p).unwrap()).collect()
+    let named = |p: &Path| p.file_stem().unwrap().to_str().unwrap().to_string();
+    paths.iter().map(|p| (named(p), std::fs::read_to_string(p).unwrap())).collect()
+}
+
+/// The source of the crate `boundary_c`, all its files together.
+fn archive() -> String {
+    sources("boundary_c").into_values().collect()
 }
 
 #[test]
 fn the_same_functions() {
-    let (exported, declared) = (exported(&boundary()), declared());
+    let (exported, declared) = (exported(&archive()), declared());
     for (name, signature) in &exported {
-        assert_eq!(declared.get(name), Some(signature), "{name}: src/raw.rs against crates/boundary");
+        assert_eq!(declared.get(name), Some(signature), "{name}: src/raw.rs against crates/boundary_c");
     }
     for name in declared.keys() {
-        assert!(exported.contains_key(name), "{name} is not exported by crates/boundary");
+        assert!(exported.contains_key(name), "{name} is not exported by crates/boundary_c");
     }
+    // each function that crosses to C is exported under its own name
+    let crossing = bare(&archive()).matches("extern \"C\"").count();
+    assert_eq!(crossing, exported.len());
+}
+
+/// Every public function of a Rattle file: its text up to the body, and its body, both with no blanks and no comma before a bracket.
+fn contracts(text: &str, mark: &str) -> BTreeMap<String, (String, String)> {
+    let tight = |text: &str| text.split_whitespace().collect::<String>().replace(",)", ")");
+    let mut found = BTreeMap::new();
+    // a body begins and ends at the start of a line
+    let code: Vec<_> = text.lines().map(|line| line.split("//").next().unwrap().trim_end()).collect();
+    for part in code.join("\n").replace("]\npub", "] pub").split(mark).skip(1) {
+        let (head, rest) = part.split_once("\n{\n").expect("a function has a body");
+        let name = head.split(['(', '<']).next().unwrap().trim().to_string();
+        let body = rest.split("\n}").next().unwrap();
+        found.insert(name, (tight(head), tight(body)));
+    }
+    found
+}
+
+/// What a Rattle file imports for its contracts: each word with its path.
+fn imports(text: &str) -> BTreeSet<(String, String)> {
+    let mut found = BTreeSet::new();
+    for item in bare(text).split("ghost use ").skip(1) {
+        let (path, words) = item.split(';').next().unwrap().split_once(".{").expect("its words stand in braces");
+        found.extend(divided(words.trim_end_matches('}')).into_iter().map(|word| (path.to_string(), word)));
+    }
+    found
+}
+
+#[test]
+fn the_same_contracts() {
+    let (calls, mut count) = (sources("boundary"), 0);
+    for (file, text) in sources("boundary_c") {
+        let call = calls.get(&file).unwrap_or_else(|| panic!("crates/boundary has no {file}"));
+        assert!(imports(&text).is_subset(&imports(call)), "{file}: a word of a contract has another path");
+        let ours = contracts(call, "pub fn ");
+        for (name, (head, body)) in contracts(&text, EXPORT) {
+            assert_eq!(Some(&head), ours.get(&name).map(|it| &it.0), "{name}: crates/boundary_c against crates/boundary");
+            let parameters: Vec<_> = functions(&text, EXPORT)[&name].0.iter().map(|(name, _)| name.clone()).collect();
+            assert_eq!(body, format!("boundary::{file}::{name}({})", parameters.join(",")));
+            count += 1;
+        }
+    }
+    assert_eq!(count, declared().len());
 }
 
 /// A struct of a source: the attributes right before it, and its fields.
@@ -143,17 +197,19 @@ fn attributes_of_one_struct_alone() {
 fn signatures_are_read_and_crossed() {
     let rattle = r#"
         // What it answers.
-        #[no_mangle]
+        #[unsafe(no_mangle)]
         pub extern "C" fn sigatuda_some<'a>(set: &'a [u8], id: &[u8; 16], // a comment, with a comma
             page: u32, part: &mut &'a [u8], log: &mut [u8; 16], out: &mut [u8]) -> Reply
-            ensures { λ r. ⌜ r .code ≡ 0 ⌝ }
+            ensures none { result.code ≡ 0 }
+            ensures left { out.new ≡ out.old }
         { Reply { code: 0, found: 0 } }
-        #[no_mangle]
+        #[unsafe(no_mangle)]
         pub extern "C" fn sigatuda_none() -> u32 { 1 }
     "#;
     let rust = "pub(crate) fn sigatuda_some(set: *const u8, set_len: usize, id: *const [u8; 16], page: u32, part: *mut Part, \
                 log: *mut [u8; 16], out: *mut u8, out_len: usize) -> Reply; pub(crate) fn sigatuda_none() -> u32;";
     assert_eq!(exported(rattle), functions(rust, "pub(crate) fn "));
     assert_ne!(exported(&rattle.replace("page: u32", "page: u64")), functions(rust, "pub(crate) fn "));
+    assert!(!exported(&rattle.replace("#[unsafe(no_mangle)]", "")).contains_key("sigatuda_some"));
     assert_eq!(declared().len(), 74);
 }

@@ -1,5 +1,6 @@
 // What stands between the exported C functions and the calls by value: arguments in bytes become values, and answers become a reply and what is lent for them.
 #![tactic(auto)]
+
 pub mod replies;
 pub mod sets;
 pub mod snapshots;

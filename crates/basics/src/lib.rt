@@ -1,6 +1,7 @@
 // Numbers that are kept apart: an LSN, a page number and a page count are one tuple struct each, so that none passes for another.
 // Identifiers, commit hashes and the keys of the tables, with their orders.
 #![tactic(auto)]
+
 pub mod commit_hash;
 pub mod id;
 pub mod keys;

@@ -1,5 +1,6 @@
 // Many records into one table, or a run of them out of it. A batch is a byte slice of n records of `stride` bytes, one after another.
 #![tactic(auto)]
+
 ghost use Rattle.std.specs.Prelude.{◌≡◌, true, ◌+◌, ◌-◌, ◌*◌, ◌≤◌, ◌<◌, ◌++◌, length, take, drop};
 ghost use Rattle.octets.specs.Bytes.{part};
 ghost use Rattle.octets.specs.Bytes as B;

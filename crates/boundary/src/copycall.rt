@@ -5,8 +5,7 @@ ghost use Rattle.copycalls.specs.Making.{ids, snapshot_on, logref_on, Leaves};
 use arguments::Reply;
 
 // A new volume whose local log has copies of a snapshot's commits: 20, 1, 2, 3, 5, 19.
-#[unsafe(no_mangle)]
-pub extern "C" fn sigatuda_volume_from_snapshot(
+pub fn sigatuda_volume_from_snapshot(
     volumes: &mut [u8],
     commits: &mut [u8],
     checkpoints: &mut [u8],
@@ -36,8 +35,7 @@ pub extern "C" fn sigatuda_volume_from_snapshot(
 }
 
 // A new volume whose local log has copies of a log's commits up to one that is stored, or nothing: 20, 1, 3, 5, 19.
-#[unsafe(no_mangle)]
-pub extern "C" fn sigatuda_volume_from_logref(
+pub fn sigatuda_volume_from_logref(
     volumes: &mut [u8],
     commits: &mut [u8],
     checkpoints: &mut [u8],

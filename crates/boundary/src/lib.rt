@@ -1,6 +1,7 @@
 // The exported C functions: each decodes its arguments, makes the call and encodes the answer. A reply is document 01's number and whether there is an
 // answer; what is lent for the answer is written only then.
 #![tactic(auto)]
+
 pub mod commitcall;
 pub mod copycall;
 pub mod forms;

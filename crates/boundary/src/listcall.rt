@@ -13,24 +13,21 @@ use arguments::Reply;
 use basics::lsn::Lsn;
 
 // The volumes, in key order, 117 bytes each: 20, 19.
-#[unsafe(no_mangle)]
-pub extern "C" fn sigatuda_volume_list(volumes: &[u8], list: &mut [u8], items: &mut u32) -> Reply
+pub fn sigatuda_volume_list(volumes: &[u8], list: &mut [u8], items: &mut u32) -> Reply
     ensures { (result, (list.new, items.new)) ≡ list_left volume_bytes list.old items.old (lent (volumes_ok volumes.now) (volume_list (volumes_in volumes.now) (slots_in volume_bytes list.old))) }
 {
     listcalls::volume_list(volumes, list, items)
 }
 
 // The tags, in key order, 50 bytes each: 20, 19.
-#[unsafe(no_mangle)]
-pub extern "C" fn sigatuda_tag_list(tags: &[u8], list: &mut [u8], items: &mut u32) -> Reply
+pub fn sigatuda_tag_list(tags: &[u8], list: &mut [u8], items: &mut u32) -> Reply
     ensures { (result, (list.new, items.new)) ≡ list_left tag_bytes list.old items.old (lent (tags_ok tags.now) (tag_list (tags_in tags.now) (slots_in tag_bytes list.old))) }
 {
     listcalls::tag_list(tags, list, items)
 }
 
 // The stored LSNs of a log from `end` down to `start`, 8 bytes each: 20, 1, 2, 19.
-#[unsafe(no_mangle)]
-pub extern "C" fn sigatuda_stored_lsns(
+pub fn sigatuda_stored_lsns(
     commits: &[u8],
     log: &[u8; 16],
     start: u64,
@@ -38,15 +35,14 @@ pub extern "C" fn sigatuda_stored_lsns(
     list: &mut [u8],
     items: &mut u32,
 ) -> Reply
-    ensures { (result, (list.new, items.new)) ≡ list_left (number 8) list.old items.old (lent (commits_ok commits.now) (stored_lsns (commits_in commits.now) (slots_in (number 8) list.old) (record { log = log.entry.now; start = start; end = end }))) }
+    ensures { (result, (list.new, items.new)) ≡ list_left (number 8) list.old items.old (lent (commits_ok commits.now) (stored_lsns (commits_in commits.now) (slots_in (number 8) list.old) (record { log = log.now; start = start; end = end }))) }
 {
     let id = *log;
     listcalls::stored_lsns(commits, id, Lsn(start), Lsn(end), list, items)
 }
 
 // The commits of a snapshot, ranges in path order, LSN falling, 722 bytes each: 20, 1, 2, 3, 19.
-#[unsafe(no_mangle)]
-pub extern "C" fn sigatuda_snapshot_commits(
+pub fn sigatuda_snapshot_commits(
     commits: &[u8],
     snapshot: &[u8],
     list: &mut [u8],

@@ -26,8 +26,7 @@ fn flagged_lsn(flag: u32, lsn: u64) -> MaybeLsn
 }
 
 // The LSNs above the base up to the head, or nothing; a flag 0 says that the base or the head is missing: 1, 16.
-#[unsafe(no_mangle)]
-pub extern "C" fn sigatuda_changes(
+pub fn sigatuda_changes(
     has_base: u32,
     base: u64,
     has_head: u32,
@@ -46,7 +45,7 @@ pub extern "C" fn sigatuda_changes(
 
 // A range of a log.
 fn log_range(log: &[u8; 16], start: u64, end: u64) -> LogRange
-    ensures { range_says result ≡ record { log = log.entry.now; start = start; end = end } }
+    ensures { range_says result ≡ record { log = log.now; start = start; end = end } }
 {
     let id = *log;
     LogRange {
@@ -57,15 +56,14 @@ fn log_range(log: &[u8; 16], start: u64, end: u64) -> LogRange
 }
 
 // A snapshot of one range of a log: 1, 2, 3.
-#[unsafe(no_mangle)]
-pub extern "C" fn sigatuda_snapshot_new(
+pub fn sigatuda_snapshot_new(
     log: &[u8; 16],
     start: u64,
     end: u64,
     count: u32,
     out: &mut [u8],
 ) -> Reply
-    ensures { (result, out.new) ≡ snapshot_left out.old (snapshot_new (record { log = log.entry.now; start = start; end = end }) count) }
+    ensures { (result, out.new) ≡ snapshot_left out.old (snapshot_new (record { log = log.now; start = start; end = end }) count) }
 {
     put_snapshot(
         Snapshot::new(log_range(log, start, end), PageCount(count)),
@@ -74,15 +72,14 @@ pub extern "C" fn sigatuda_snapshot_new(
 }
 
 // A snapshot with a range more, the last of its path: 1, 2, 3.
-#[unsafe(no_mangle)]
-pub extern "C" fn sigatuda_snapshot_append(
+pub fn sigatuda_snapshot_append(
     snapshot: &[u8],
     log: &[u8; 16],
     start: u64,
     end: u64,
     out: &mut [u8],
 ) -> Reply
-    ensures { (result, out.new) ≡ snapshot_left out.old (append_in snapshot.now (record { log = log.entry.now; start = start; end = end })) }
+    ensures { (result, out.new) ≡ snapshot_left out.old (append_in snapshot.now (record { log = log.now; start = start; end = end })) }
 {
     let a = snapshot_arg(snapshot).append(log_range(log, start, end));
     if !snapshot_ok(snapshot) {
@@ -92,12 +89,7 @@ pub extern "C" fn sigatuda_snapshot_append(
 }
 
 // The log and the end of the path's first range, or nothing: 1, 2, 3.
-#[unsafe(no_mangle)]
-pub extern "C" fn sigatuda_snapshot_head(
-    snapshot: &[u8],
-    log: &mut [u8; 16],
-    lsn: &mut u64,
-) -> Reply
+pub fn sigatuda_snapshot_head(snapshot: &[u8], log: &mut [u8; 16], lsn: &mut u64) -> Reply
     ensures { (result, (log.new, lsn.new)) ≡ value_or (λ h. h) (log.old, lsn.old) (head_in snapshot.now) }
 {
     let s = snapshot_arg(snapshot);

@@ -10,56 +10,49 @@ use basics::page_count::PageCount;
 use basics::pageidx::PageIdx;
 
 // The LSN after n: 1, 18.
-#[unsafe(no_mangle)]
-pub extern "C" fn sigatuda_lsn_next(n: u64, out: &mut u64) -> Reply
+pub fn sigatuda_lsn_next(n: u64, out: &mut u64) -> Reply
     ensures { (result, out.new) ≡ value (λ m. m) out.old (next_lsn n) }
 {
     replies::put_lsn(Lsn(n).next(), out)
 }
 
 // The LSN before n, or nothing before the first: 1.
-#[unsafe(no_mangle)]
-pub extern "C" fn sigatuda_lsn_prev(n: u64, out: &mut u64) -> Reply
+pub fn sigatuda_lsn_prev(n: u64, out: &mut u64) -> Reply
     ensures { (result, out.new) ≡ value_or (λ m. m) out.old (prev_lsn n) }
 {
     replies::put_maybe_lsn(Lsn(n).checked_prev(), out)
 }
 
 // The LSN after n, and the last after itself: 1.
-#[unsafe(no_mangle)]
-pub extern "C" fn sigatuda_lsn_saturating_next(n: u64, out: &mut u64) -> Reply
+pub fn sigatuda_lsn_saturating_next(n: u64, out: &mut u64) -> Reply
     ensures { (result, out.new) ≡ value (λ m. m) out.old (next_lsn_or_last n) }
 {
     replies::put_lsn(Lsn(n).saturating_next(), out)
 }
 
 // The LSN before n, and the first before itself: 1.
-#[unsafe(no_mangle)]
-pub extern "C" fn sigatuda_lsn_saturating_prev(n: u64, out: &mut u64) -> Reply
+pub fn sigatuda_lsn_saturating_prev(n: u64, out: &mut u64) -> Reply
     ensures { (result, out.new) ≡ value (λ m. m) out.old (prev_lsn_or_first n) }
 {
     replies::put_lsn(Lsn(n).saturating_prev(), out)
 }
 
 // The page after p, and the last after itself: 1.
-#[unsafe(no_mangle)]
-pub extern "C" fn sigatuda_page_next(p: u32, out: &mut u32) -> Reply
+pub fn sigatuda_page_next(p: u32, out: &mut u32) -> Reply
     ensures { (result, out.new) ≡ value (λ m. m) out.old (next_page p) }
 {
     replies::put_page(PageIdx(p).saturating_next(), out)
 }
 
 // The page before p, and the first before itself: 1.
-#[unsafe(no_mangle)]
-pub extern "C" fn sigatuda_page_prev(p: u32, out: &mut u32) -> Reply
+pub fn sigatuda_page_prev(p: u32, out: &mut u32) -> Reply
     ensures { (result, out.new) ≡ value (λ m. m) out.old (prev_page p) }
 {
     replies::put_page(PageIdx(p).saturating_prev(), out)
 }
 
 // One page more, and the highest count after itself.
-#[unsafe(no_mangle)]
-pub extern "C" fn sigatuda_count_next(n: u32, out: &mut u32) -> Reply
+pub fn sigatuda_count_next(n: u32, out: &mut u32) -> Reply
     ensures { (result, out.new) ≡ value (λ m. m) out.old (done (next_count n)) }
 {
     *out = PageCount(n).saturating_incr().0;
@@ -67,8 +60,7 @@ pub extern "C" fn sigatuda_count_next(n: u32, out: &mut u32) -> Reply
 }
 
 // One page less, and no page after none.
-#[unsafe(no_mangle)]
-pub extern "C" fn sigatuda_count_prev(n: u32, out: &mut u32) -> Reply
+pub fn sigatuda_count_prev(n: u32, out: &mut u32) -> Reply
     ensures { (result, out.new) ≡ value (λ m. m) out.old (done (prev_count n)) }
 {
     *out = PageCount(n).saturating_decr().0;
@@ -76,8 +68,7 @@ pub extern "C" fn sigatuda_count_prev(n: u32, out: &mut u32) -> Reply
 }
 
 // The last of n pages, or nothing where there is none.
-#[unsafe(no_mangle)]
-pub extern "C" fn sigatuda_count_last_page(n: u32, out: &mut u32) -> Reply
+pub fn sigatuda_count_last_page(n: u32, out: &mut u32) -> Reply
     ensures { (result, out.new) ≡ value_or (λ m. m) out.old (done (end_page n)) }
 {
     replies::put_maybe_page(PageCount(n).last_pageidx(), out)

@@ -12,16 +12,14 @@ use basics::pageidx::PageIdx;
 use presencecalls::{page_mark, page_present, page_remove, pages_remove};
 
 // Whether a page of a segment is present: 20, 1.
-#[unsafe(no_mangle)]
-pub extern "C" fn sigatuda_page_present(presence: &[u8], sid: &[u8; 16], page: u32) -> Reply
+pub fn sigatuda_page_present(presence: &[u8], sid: &[u8; 16], page: u32) -> Reply
     ensures { result ≡ yes_or_no (lent (presence_ok presence.now) (page_present (presence_in presence.now) sid.now page)) }
 {
     replies::yes_or_no(page_present(presence, *sid, PageIdx(page)))
 }
 
 // A page of a segment marked present; where it is already, nothing changes: 20, 1, 19.
-#[unsafe(no_mangle)]
-pub extern "C" fn sigatuda_page_mark(presence: &mut [u8], sid: &[u8; 16], page: u32) -> Reply
+pub fn sigatuda_page_mark(presence: &mut [u8], sid: &[u8; 16], page: u32) -> Reply
     ensures value { result ≡ numbered_reply (code (lent (presence_ok presence.old) (page_mark (presence_in presence.old) sid.now page))) }
     ensures presence_after { presence.new ≡ after present_bytes (λ t. t) presence.old (lent (presence_ok presence.old) (page_mark (presence_in presence.old) sid.now page)) }
 {
@@ -29,8 +27,7 @@ pub extern "C" fn sigatuda_page_mark(presence: &mut [u8], sid: &[u8; 16], page: 
 }
 
 // A page of a segment is present no more; where it is not, nothing changes: 20, 1.
-#[unsafe(no_mangle)]
-pub extern "C" fn sigatuda_page_remove(presence: &mut [u8], sid: &[u8; 16], page: u32) -> Reply
+pub fn sigatuda_page_remove(presence: &mut [u8], sid: &[u8; 16], page: u32) -> Reply
     ensures value { result ≡ numbered_reply (code (lent (presence_ok presence.old) (page_remove (presence_in presence.old) sid.now page))) }
     ensures presence_after { presence.new ≡ after present_bytes (λ t. t) presence.old (lent (presence_ok presence.old) (page_remove (presence_in presence.old) sid.now page)) }
 {
@@ -38,13 +35,7 @@ pub extern "C" fn sigatuda_page_remove(presence: &mut [u8], sid: &[u8; 16], page
 }
 
 // The pages of a segment from first to last are present no more; where none is, nothing changes: 20, 1, 2.
-#[unsafe(no_mangle)]
-pub extern "C" fn sigatuda_pages_remove(
-    presence: &mut [u8],
-    sid: &[u8; 16],
-    first: u32,
-    last: u32,
-) -> Reply
+pub fn sigatuda_pages_remove(presence: &mut [u8], sid: &[u8; 16], first: u32, last: u32) -> Reply
     ensures value { result ≡ numbered_reply (code (lent (presence_ok presence.old) (pages_remove (presence_in presence.old) sid.now first last))) }
     ensures presence_after { presence.new ≡ after present_bytes (λ t. t) presence.old (lent (presence_ok presence.old) (pages_remove (presence_in presence.old) sid.now first last)) }
 {

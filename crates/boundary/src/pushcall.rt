@@ -18,8 +18,7 @@ use arguments::replies::numbered;
 use opencalls::Wanted;
 
 // The pushed commit written, given as its 722 bytes, and the volume's sync point the pending one: 20, 3 for another number of bytes, 1, 3, 4, 10, 14, 15, 19.
-#[unsafe(no_mangle)]
-pub extern "C" fn sigatuda_success(
+pub fn sigatuda_success(
     volumes: &mut [u8],
     commits: &mut [u8],
     checkpoints: &mut [u8],
@@ -38,8 +37,7 @@ pub extern "C" fn sigatuda_success(
 }
 
 // What became of a push found out: 20, 4, 19, and 8 with the pending commit dropped.
-#[unsafe(no_mangle)]
-pub extern "C" fn sigatuda_recover(
+pub fn sigatuda_recover(
     volumes: &mut [u8],
     commits: &mut [u8],
     checkpoints: &mut [u8],
@@ -57,8 +55,7 @@ pub extern "C" fn sigatuda_recover(
 }
 
 // A volume opened, to `out` (117 bytes): the asked one that is stored, or a new one, with spares for what was not asked (flag 0): 20, 3 for another number of lent bytes, 6, 5, 19.
-#[unsafe(no_mangle)]
-pub extern "C" fn sigatuda_open(
+pub fn sigatuda_open(
     volumes: &mut [u8],
     commits: &[u8],
     has_vid: u32,

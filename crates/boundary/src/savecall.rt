@@ -8,8 +8,7 @@ use arguments::{Reply, replies};
 use basics::page_count::PageCount;
 
 // Pages saved on a volume as a new commit of its local log, and the snapshot afterwards: 20, 1, 2, 3, 4, 7, 18, 5, 19.
-#[unsafe(no_mangle)]
-pub extern "C" fn sigatuda_save(
+pub fn sigatuda_save(
     volumes: &[u8],
     commits: &mut [u8],
     checkpoints: &mut [u8],

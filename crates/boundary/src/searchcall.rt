@@ -12,8 +12,7 @@ use basics::lsn::Lsn;
 use basics::pageidx::PageIdx;
 
 // The commit that a snapshot has of a page, to `out`, or nothing: 20, 1, 2, 3, 21.
-#[unsafe(no_mangle)]
-pub extern "C" fn sigatuda_search(
+pub fn sigatuda_search(
     commits: &[u8],
     index: &[u8],
     snapshot: &[u8],
@@ -26,8 +25,7 @@ pub extern "C" fn sigatuda_search(
 }
 
 // The log's highest checkpoint at or below an LSN, or nothing: 20, 1.
-#[unsafe(no_mangle)]
-pub extern "C" fn sigatuda_checkpoint_at(
+pub fn sigatuda_checkpoint_at(
     checkpoints: &[u8],
     log: &[u8; 16],
     lsn: u64,

@@ -14,24 +14,21 @@ use segmentargs::lists::frame_list;
 use segmentargs::{put_range, range_arg, segment_arg};
 
 // The frames of a segment as a list of ranges, and their number: 3, 19.
-#[unsafe(no_mangle)]
-pub extern "C" fn sigatuda_frame_list(segment: &[u8], list: &mut [u8], items: &mut u32) -> Reply
+pub fn sigatuda_frame_list(segment: &[u8], list: &mut [u8], items: &mut u32) -> Reply
     ensures { (result, (list.new, items.new)) ≡ list_left entry_form list.old items.old (roomed entry_form list.old (list_rule (segment_arg segment.now))) }
 {
     frame_list(segment, list, items)
 }
 
 // The frame of a page, or nothing: 1, 3.
-#[unsafe(no_mangle)]
-pub extern "C" fn sigatuda_frame_of_page(segment: &[u8], page: u32, out: &mut [u8]) -> Reply
+pub fn sigatuda_frame_of_page(segment: &[u8], page: u32, out: &mut [u8]) -> Reply
     ensures { (result, out.new) ≡ range_left out.old (frame_rule (segment_arg segment.now) page) }
 {
     put_range(frame_for(segment_arg(segment), PageIdx(page)), out)
 }
 
 // The bytes of a page's frame as a part of the lent segment, or nothing: 1, 3, 23.
-#[unsafe(no_mangle)]
-pub extern "C" fn sigatuda_frame_bytes<'a>(
+pub fn sigatuda_frame_bytes<'a>(
     segment: &[u8],
     page: u32,
     lent: &'a [u8],
@@ -52,8 +49,7 @@ pub extern "C" fn sigatuda_frame_bytes<'a>(
 }
 
 // Two ranges joined, or nothing where they do not touch: 2, 3, 22.
-#[unsafe(no_mangle)]
-pub extern "C" fn sigatuda_join(a: &[u8], b: &[u8], out: &mut [u8]) -> Reply
+pub fn sigatuda_join(a: &[u8], b: &[u8], out: &mut [u8]) -> Reply
     ensures { (result, out.new) ≡ join_left out.old (range_arg a.now) (range_arg b.now) }
 {
     put_range(join(range_arg(a), range_arg(b)), out)

@@ -12,8 +12,7 @@ use arguments::{Reply, replies};
 use basics::lsn::Lsn;
 
 // A volume's sync point moved to the remote's latest: 20, 4, 16, 8.
-#[unsafe(no_mangle)]
-pub extern "C" fn sigatuda_sync(volumes: &mut [u8], commits: &[u8], vid: &[u8; 16]) -> Reply
+pub fn sigatuda_sync(volumes: &mut [u8], commits: &[u8], vid: &[u8; 16]) -> Reply
     ensures value { result ≡ numbered_reply (code (lent (volumes_ok volumes.old && commits_ok commits.now) (sync (volumes_in volumes.old) (commits_in commits.now) vid.now))) }
     ensures volumes_after { volumes.new ≡ after volume_bytes (λ t. t) volumes.old (lent (volumes_ok volumes.old && commits_ok commits.now) (sync (volumes_in volumes.old) (commits_in commits.now) vid.now)) }
 {
@@ -21,8 +20,7 @@ pub extern "C" fn sigatuda_sync(volumes: &mut [u8], commits: &[u8], vid: &[u8; 1
 }
 
 // A volume's pending commit set, before its push: 20, 1, 4, 9, 11, 12, 13.
-#[unsafe(no_mangle)]
-pub extern "C" fn sigatuda_prepare(
+pub fn sigatuda_prepare(
     volumes: &mut [u8],
     commits: &[u8],
     vid: &[u8; 16],

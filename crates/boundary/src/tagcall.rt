@@ -13,24 +13,21 @@ use tablereplies::put_tagged;
 use tagcalls::{tag_delete, tag_exists, tag_read, tag_replace};
 
 // The volume that a tag names, or nothing: 20, 1.
-#[unsafe(no_mangle)]
-pub extern "C" fn sigatuda_tag_read(tags: &[u8], name: &[u8], vid: &mut [u8; 16]) -> Reply
+pub fn sigatuda_tag_read(tags: &[u8], name: &[u8], vid: &mut [u8; 16]) -> Reply
     ensures { (result, vid.new) ≡ value_or (λ v. v) vid.old (lent (tags_ok tags.now) (tag_read (tags_in tags.now) name.now)) }
 {
     put_tagged(tag_read(tags, name), vid)
 }
 
 // Whether a tag is stored: 20, 1.
-#[unsafe(no_mangle)]
-pub extern "C" fn sigatuda_tag_exists(tags: &[u8], name: &[u8]) -> Reply
+pub fn sigatuda_tag_exists(tags: &[u8], name: &[u8]) -> Reply
     ensures { result ≡ yes_or_no (lent (tags_ok tags.now) (tag_exists (tags_in tags.now) name.now)) }
 {
     replies::yes_or_no(tag_exists(tags, name))
 }
 
 // A tag deleted; where there is none, nothing changes: 20, 1.
-#[unsafe(no_mangle)]
-pub extern "C" fn sigatuda_tag_delete(tags: &mut [u8], name: &[u8]) -> Reply
+pub fn sigatuda_tag_delete(tags: &mut [u8], name: &[u8]) -> Reply
     ensures value { result ≡ numbered_reply (code (lent (tags_ok tags.old) (tag_delete (tags_in tags.old) name.now))) }
     ensures tags_after { tags.new ≡ after tag_bytes (λ t. t) tags.old (lent (tags_ok tags.old) (tag_delete (tags_in tags.old) name.now)) }
 {
@@ -38,8 +35,7 @@ pub extern "C" fn sigatuda_tag_delete(tags: &mut [u8], name: &[u8]) -> Reply
 }
 
 // The name names that volume from now on; the volume that it named before, or nothing: 20, 1, 19.
-#[unsafe(no_mangle)]
-pub extern "C" fn sigatuda_tag_replace(
+pub fn sigatuda_tag_replace(
     tags: &mut [u8],
     name: &[u8],
     vid: &[u8; 16],

@@ -10,21 +10,14 @@ ghost use Rattle.viewargs.specs.Views.{latest_in};
 use arguments::{Reply, replies};
 
 // The snapshot of a volume: 20, 3 for a lent slice of another length, 4.
-#[unsafe(no_mangle)]
-pub extern "C" fn sigatuda_snapshot(
-    volumes: &[u8],
-    commits: &[u8],
-    vid: &[u8; 16],
-    out: &mut [u8],
-) -> Reply
+pub fn sigatuda_snapshot(volumes: &[u8], commits: &[u8], vid: &[u8; 16], out: &mut [u8]) -> Reply
     ensures { (result, out.new) ≡ value snapshot_bytes.spell out.old (lent (volumes_ok volumes.now && commits_ok commits.now) (placed snapshot_bytes.size out.old (snapshot_rule (volumes_in volumes.now) (commits_in commits.now) vid.now))) }
 {
     viewargs::snapshot(volumes, commits, *vid, out)
 }
 
 // Whether a snapshot is the latest of a volume: 20, 1, 2, 3, 4.
-#[unsafe(no_mangle)]
-pub extern "C" fn sigatuda_latest_check(
+pub fn sigatuda_latest_check(
     volumes: &[u8],
     commits: &[u8],
     vid: &[u8; 16],

@@ -14,24 +14,21 @@ use tablereplies::put_volume;
 use volumecalls::{drop_pending, volume_delete, volume_exists, volume_read};
 
 // The volume of an identifier, in its table form: 20, 3, 4.
-#[unsafe(no_mangle)]
-pub extern "C" fn sigatuda_volume_read(volumes: &[u8], vid: &[u8; 16], out: &mut [u8]) -> Reply
+pub fn sigatuda_volume_read(volumes: &[u8], vid: &[u8; 16], out: &mut [u8]) -> Reply
     ensures { (result, out.new) ≡ volume_left out.old (volumes_ok volumes.now) (volume_read (volumes_in volumes.now) vid.now) }
 {
     put_volume(volume_read(volumes, *vid), out)
 }
 
 // Whether a volume is stored: 20.
-#[unsafe(no_mangle)]
-pub extern "C" fn sigatuda_volume_exists(volumes: &[u8], vid: &[u8; 16]) -> Reply
+pub fn sigatuda_volume_exists(volumes: &[u8], vid: &[u8; 16]) -> Reply
     ensures { result ≡ yes_or_no (lent (volumes_ok volumes.now) (volume_exists (volumes_in volumes.now) vid.now)) }
 {
     replies::yes_or_no(volume_exists(volumes, *vid))
 }
 
 // A volume deleted; where there is none, nothing changes: 20.
-#[unsafe(no_mangle)]
-pub extern "C" fn sigatuda_volume_delete(volumes: &mut [u8], vid: &[u8; 16]) -> Reply
+pub fn sigatuda_volume_delete(volumes: &mut [u8], vid: &[u8; 16]) -> Reply
     ensures value { result ≡ numbered_reply (code (lent (volumes_ok volumes.old) (volume_delete (volumes_in volumes.old) vid.now))) }
     ensures volumes_after { volumes.new ≡ after volume_bytes (λ t. t) volumes.old (lent (volumes_ok volumes.old) (volume_delete (volumes_in volumes.old) vid.now)) }
 {
@@ -39,8 +36,7 @@ pub extern "C" fn sigatuda_volume_delete(volumes: &mut [u8], vid: &[u8; 16]) -> 
 }
 
 // A volume's pending commit dropped; where none is pending, nothing changes: 20, 4.
-#[unsafe(no_mangle)]
-pub extern "C" fn sigatuda_drop(volumes: &mut [u8], vid: &[u8; 16]) -> Reply
+pub fn sigatuda_drop(volumes: &mut [u8], vid: &[u8; 16]) -> Reply
     ensures value { result ≡ numbered_reply (code (lent (volumes_ok volumes.old) (drop_pending (volumes_in volumes.old) vid.now))) }
     ensures volumes_after { volumes.new ≡ after volume_bytes (λ t. t) volumes.old (lent (volumes_ok volumes.old) (drop_pending (volumes_in volumes.old) vid.now)) }
 {

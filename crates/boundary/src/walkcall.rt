@@ -11,21 +11,14 @@ ghost use Rattle.walkcalls.specs.Items.{item_bytes};
 use arguments::Reply;
 
 // The walk of a snapshot into a list of items, and their number: 20, 1, 2, 3, 19.
-#[unsafe(no_mangle)]
-pub extern "C" fn sigatuda_walk(
-    commits: &[u8],
-    snapshot: &[u8],
-    list: &mut [u8],
-    items: &mut u32,
-) -> Reply
+pub fn sigatuda_walk(commits: &[u8], snapshot: &[u8], list: &mut [u8], items: &mut u32) -> Reply
     ensures { (result, (list.new, items.new)) ≡ list_left item_bytes list.old items.old (lent (commits_ok commits.now) (on_snapshot snapshot.now (walk (commits_in commits.now) (slots_in item_bytes list.old)))) }
 {
     walkcalls::walk(commits, snapshot, list, items)
 }
 
 // The missing frames of a snapshot into a list of ranges, and their number: 20, 1, 2, 3, 19.
-#[unsafe(no_mangle)]
-pub extern "C" fn sigatuda_missing_frames(
+pub fn sigatuda_missing_frames(
     commits: &[u8],
     presence: &[u8],
     snapshot: &[u8],

@@ -10,8 +10,7 @@ ghost use Rattle.writecalls.specs.Written.{logs_in, logs_ok, write_in};
 use arguments::{Reply, replies};
 
 // A commit written, all or nothing: 20, 3 for another number of bytes, 1, 3, 19.
-#[unsafe(no_mangle)]
-pub extern "C" fn sigatuda_write_commit(
+pub fn sigatuda_write_commit(
     commits: &mut [u8],
     checkpoints: &mut [u8],
     index: &mut [u8],

@@ -1,5 +1,6 @@
 // The lines of a call list: a line's bytes to the call that it names and the values of its keys, or that it is not in the form (24).
 #![tactic(auto)]
+
 pub mod fields;
 pub mod texts;
 pub mod values;

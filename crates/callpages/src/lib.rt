@@ -1,5 +1,6 @@
 // The pages of a call list line as a set: built by windows, range by range, and never page by page.
 #![tactic(auto)]
+
 ghost use Rattle.std.specs.Prelude.{◌≡◌, ◌<◌, ◌≤◌, true, ◌||◌};
 ghost use Rattle.basics.specs.Answers.{done};
 ghost use Rattle.pageset.specs.Sets.{member, normal};
@@ -7,9 +8,9 @@ ghost use Rattle.pageset.specs.Rules.{within};
 ghost use Rattle.pageset.specs.Says.{GivesOr22};
 ghost use Rattle.callpages.specs.Pages.{pages_rule};
 
+use basics::pageidx::PageIdx;
 use callline::values::Pages;
 use callline::{texts, values};
-use basics::pageidx::PageIdx;
 use pageset::{PageSet, SetAnswer, sets};
 
 // A set with the pages of a range, or 22.

@@ -19,7 +19,7 @@ pub fn step_printed(
     out: &mut [u8],
 ) -> usize
     requires { (length slots.old ≡ 1052) × (96 ≤ length out.old) }
-    ensures { Prints (record { volumes = volumes.entry.now; commits = commits.old; checkpoints = checkpoints.old; index = index.old; presence = presence.old; slots = slots.old }) line.now number out.old result out.new (record { volumes = volumes.exit.now; commits = commits.new; checkpoints = checkpoints.new; index = index.new; presence = presence.new; slots = slots.new }) }
+    ensures { Prints (record { volumes = volumes.old; commits = commits.old; checkpoints = checkpoints.old; index = index.old; presence = presence.old; slots = slots.old }) line.now number out.old result out.new (record { volumes = volumes.new; commits = commits.new; checkpoints = checkpoints.new; index = index.new; presence = presence.new; slots = slots.new }) }
 {
     let p = step(volumes, commits, checkpoints, index, presence, slots, line);
     let code = p.code;

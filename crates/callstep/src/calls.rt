@@ -15,13 +15,13 @@ ghost use Rattle.callstep.specs.Steps.{open_on, snap_on, snap_head, find_on, fou
 ghost use Rattle.callstep.specs.Says.{printed_says, Saves, Fetches};
 
 use super::Printed;
+use basics::lsn::Lsn;
+use basics::page_count::PageCount;
+use basics::pageidx::PageIdx;
 use callpages::page_set;
 use calltext::Head;
 use callvalues::made::id_of;
 use callvalues::{made, slots};
-use basics::lsn::Lsn;
-use basics::page_count::PageCount;
-use basics::pageidx::PageIdx;
 use opencalls::Wanted;
 
 // A code, and no commit.
@@ -96,7 +96,7 @@ pub fn save(
     text: &[u8],
 ) -> Printed
     requires { (slot ≤ 3) × (length slots.now ≡ 1052) × (is_done (pages_of text.now) ≡ true) }
-    ensures { Saves (record { volumes = volumes.entry.now; commits = commits.old; checkpoints = checkpoints.old; index = index.old; presence = presence.old; slots = slots.now }) vid slot count sid text.now result (record { volumes = volumes.entry.now; commits = commits.new; checkpoints = checkpoints.new; index = index.new; presence = presence.new; slots = slots.now }) }
+    ensures { Saves (record { volumes = volumes.now; commits = commits.old; checkpoints = checkpoints.old; index = index.old; presence = presence.old; slots = slots.now }) vid slot count sid text.now result (record { volumes = volumes.now; commits = commits.new; checkpoints = checkpoints.new; index = index.new; presence = presence.new; slots = slots.now }) }
 {
     let pages = page_set(text);
     if !slots::is_set(slots, slot) {

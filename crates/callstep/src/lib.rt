@@ -1,5 +1,6 @@
 // A call list, line by line: from a line and the tester, lent as five tables and four slots in bytes, to the line that is printed and the tester afterwards.
 #![tactic(auto)]
+
 pub mod calls;
 
 ghost use Rattle.std.specs.Prelude.{◌≡◌, length};
@@ -28,7 +29,7 @@ pub fn step(
     line: &[u8],
 ) -> Printed
     requires { length slots.old ≡ 1052 }
-    ensures { Steps (record { volumes = volumes.entry.now; commits = commits.old; checkpoints = checkpoints.old; index = index.old; presence = presence.old; slots = slots.old }) line.now (stepped result (record { volumes = volumes.exit.now; commits = commits.new; checkpoints = checkpoints.new; index = index.new; presence = presence.new; slots = slots.new })) }
+    ensures { Steps (record { volumes = volumes.old; commits = commits.old; checkpoints = checkpoints.old; index = index.old; presence = presence.old; slots = slots.old }) line.now (stepped result (record { volumes = volumes.new; commits = commits.new; checkpoints = checkpoints.new; index = index.new; presence = presence.new; slots = slots.new })) }
 {
     let call = parse(line);
     match call {

@@ -1,5 +1,6 @@
 // The lines that the call list program prints, into lent bytes.
 #![tactic(auto)]
+
 ghost use Rattle.std.specs.Prelude.{◌≡◌, cond, ◌+◌, ◌≤◌, ◌<◌, ltb, length, drop};
 ghost use Rattle.octets.specs.Bytes.{put};
 ghost use Rattle.calltext.specs.Output.{decimal, hex_byte, log_text, lsn_of, output_line};

@@ -11,13 +11,13 @@ ghost use Rattle.calltext.specs.Says.{head_says};
 ghost use Rattle.callvalues.specs.Values.{id_of, fetched, shortly, commit_head};
 
 use arguments::snapshots::snapshot_arg;
+use basics::id::{LogId, SegmentId};
+use basics::lsn::Lsn;
+use basics::page_count::PageCount;
 use calltext::Head;
 use commit::{Commit, SegmentIdx};
 use commitbytes::commit_write;
 use commitbytes::fields::{commit_log, commit_lsn};
-use basics::id::{LogId, SegmentId};
-use basics::lsn::Lsn;
-use basics::page_count::PageCount;
 use pageset::PageSet;
 use setbytes::set_write;
 use volume::volume::MaybeLsn;

@@ -1,5 +1,6 @@
 // Commits and segments by value, with builders that change one field and keep all others; and runs of a segment's bytes.
 #![tactic(auto)]
+
 ghost use Rattle.std.specs.Prelude.{◌≡◌};
 ghost use Rattle.basics.specs.Hashes.{zero_hash};
 ghost use Rattle.commit.specs.Says.{zero_range, no_range, found_range};

@@ -9,12 +9,12 @@ ghost use Rattle.basics.specs.Says.{lsn_laid};
 ghost use Rattle.commitbytes.specs.Laid.{presence, hash_laid, given_segment};
 
 use crate::parts::flag_read;
-use commit::{Presence, SegmentIdx};
 use basics::commit_hash;
 use basics::commit_hash::CommitHash;
 use basics::id::{LogId, SegmentId};
 use basics::lsn::Lsn;
 use basics::page_count::PageCount;
+use commit::{Presence, SegmentIdx};
 use octets::{load_hash, load_id, load8, load32, load64, same};
 use segmentbytes::segment_read;
 

@@ -1,6 +1,7 @@
 // A commit in bytes (docs/TABLES.md), 722 bytes: its log and its LSN, which are its key, its page count, its hash and its segment, which may be missing, and
 // at most 8 checkpoint LSNs. `fields` reads single fields, `parts` has the key, the hash and the segment, `lsns` the checkpoints.
 #![tactic(auto)]
+
 pub mod fields;
 pub mod lsns;
 pub mod parts;

@@ -7,8 +7,8 @@ ghost use Rattle.rules.specs.Lists.{all};
 ghost use Rattle.layout.specs.Codecs.{Codec, number, listed, in_form};
 ghost use Rattle.commitbytes.specs.Laid.{lsns_at, lsn_says, lsns_laid, lsns_form, IsLaid};
 
-use commit::no_checkpoints;
 use basics::lsn::Lsn;
+use commit::no_checkpoints;
 use octets::{all_zero, load8, load64, store8, store64};
 use setbytes::count_read;
 

@@ -9,8 +9,8 @@ ghost use Rattle.layout.specs.Values.{segment_bytes};
 ghost use Rattle.layout.specs.Records.{log_lsn_bytes, hash_bytes};
 ghost use Rattle.commitbytes.specs.Laid.{key_form, presence_of, flag_of, hash_laid, given_segment};
 
-use commit::{Presence, SegmentIdx};
 use basics::commit_hash::CommitHash;
+use commit::{Presence, SegmentIdx};
 use octets::{all_zero, load8, load64, store_hash, store8};
 use segmentbytes::{segment_form, segment_write};
 

@@ -1,6 +1,7 @@
 // The calls that read commits. Each answers on every input: 20 where the lent table is not one, then 1, then 3 for a lent place of another
 // size than a record, then the record or nothing. A record goes to lent bytes, in its table form.
 #![tactic(auto)]
+
 ghost use Rattle.std.specs.Prelude.{◌≡◌, true, length};
 ghost use Rattle.basics.specs.Answers.{done};
 ghost use Rattle.basics.specs.Says.{maybe_lsn_says};
@@ -11,10 +12,10 @@ ghost use Rattle.rules.specs.Reads.{commit_read, latest_lsn_read, latest_commit_
 ghost use Rattle.commits.specs.Places.{place_says, Inside};
 ghost use Rattle.commitcalls.specs.Says.{maybe_count_says, found_says, Answered};
 
-use commits::{Place, commits_formed};
 use basics::id::LogId;
 use basics::lsn::{Lsn, MaybeLsnAnswer};
 use basics::page_count::PageCount;
+use commits::{Place, commits_formed};
 use layout::COMMIT;
 
 // A page count or nothing, or the number of a refusal.

@@ -1,5 +1,6 @@
 // The table of commits in lent bytes: its check, where a commit stands, and single fields of a stored commit, read where they stand.
 #![tactic(auto)]
+
 ghost use Rattle.std.specs.Prelude.{◌≡◌, ◌+◌, ◌*◌, ◌<◌, ◌≤◌, true, length};
 ghost use Rattle.table.specs.Table.{count_of};
 ghost use Rattle.layout.specs.Tables.{commits_in, commits_ok};
@@ -9,9 +10,9 @@ ghost use Rattle.rules.specs.Push.{is_hash};
 ghost use Rattle.rules.specs.Save.{has_sid};
 ghost use Rattle.commits.specs.Places.{commit_at, PlaceOf, RunOfRange};
 
+use basics::id::{LogId, SegmentId};
 use commit::Presence;
 use commitbytes::{commit_form, fields};
-use basics::id::{LogId, SegmentId};
 use layout::{COMMIT, COMMIT_KEY, log_key};
 
 // Where a commit stands in the table, or that there is none.

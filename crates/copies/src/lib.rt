@@ -1,5 +1,6 @@
 // Copies of a path's commits in a new local log: a copy's bytes, and all of them written. N commits in path order become N down to 1. `room` counts what they add.
 #![tactic(auto)]
+
 pub mod room;
 
 ghost use Rattle.std.specs.Prelude.{◌≡◌, ◌<◌, true, length};

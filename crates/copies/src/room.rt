@@ -19,8 +19,8 @@ ghost use Rattle.paths.specs.Left.{is_left, left_says};
 ghost use Rattle.copies.specs.Copied.{lists};
 
 use crate::copied_row;
-use commitbytes::fields;
 use basics::id::LogId;
+use commitbytes::fields;
 use layout::{CHECKPOINT, COMMIT, ENTRY};
 use octets::load64;
 use paths::{Left, next_commit};

@@ -1,6 +1,7 @@
 // Volumes made from commits that are stored: from a snapshot, and from a commit of a log. A plan decides and stores nothing; then one function stores, all or nothing over four tables. Each
 // answers on every input, 20 first.
 #![tactic(auto)]
+
 ghost use Rattle.std.specs.Prelude.{◌≡◌, true, [], ◌∷◌, length};
 ghost use Rattle.basics.specs.Answers.{code};
 ghost use Rattle.rules.specs.Lists.{all, those, is_none};
@@ -15,12 +16,12 @@ ghost use Rattle.copycalls.specs.Making.{ids, up_to, copy_ok, arguments_in, made
 
 use arguments::Reply;
 use arguments::snapshots::{snapshot_arg, snapshot_ok};
-use commits::{Place, find_commit};
-use copies::room::room_for_copies;
-use copies::store_copies;
 use basics::id::{LogId, VolumeId};
 use basics::lsn::Lsn;
 use basics::{commit_hash, id};
+use commits::{Place, find_commit};
+use copies::room::room_for_copies;
+use copies::store_copies;
 use layout::VOLUME;
 use paths::{Left, commits_left, without};
 use volume::snapshot::LogRange;

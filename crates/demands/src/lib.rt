@@ -1,5 +1,6 @@
 // What the demands say of the exported functions: each function here makes calls, and has the demand as its contract.
 #![tactic(auto)]
+
 pub mod saving;
 pub mod syncing;
 

@@ -1,6 +1,7 @@
 // Checkpoints, the page index and presence: the three tables whose record is its key (docs/TABLES.md).
 // A table is checked in one pass that carries the numbers of the record before, so that each byte is loaded once.
 #![tactic(auto)]
+
 ghost use Rattle.std.specs.Prelude.{◌≡◌, ◌+◌, ◌*◌, ◌<◌, ◌≤◌, not, ◌&&◌, length, ◌==◌, nat_le};
 ghost use Rattle.octets.specs.Bytes.{part};
 ghost use Rattle.octets.specs.Order.{is_less};

@@ -1,5 +1,6 @@
 // A segment's frames: whether they are in their domain, all of them, the frame of a page, and its bytes.
 #![tactic(auto)]
+
 ghost use Rattle.std.specs.Prelude.{◌≡◌, ◌+◌, ◌<◌, ◌≤◌, true, length, drop};
 ghost use Rattle.std.proofs.Math.Option.{some};
 ghost use Rattle.pageset.specs.Sets.{shown, normal};
@@ -10,9 +11,9 @@ ghost use Rattle.frames.specs.Places.{run_part, place_says, Placed, bytes_says, 
 ghost use Rattle.frames.specs.Parts.{Filled, Lists};
 ghost use Rattle.frames.specs.Rules.{no_frames, frames_ok, list_rule, frame_rule, bytes_rule, part_bytes, cut_bytes};
 
-use commit::{RangeAnswer, SegmentIdx, SegmentRange, found_range, no_range};
 use basics::page_count::MaybePage;
 use basics::pageidx::PageIdx;
+use commit::{RangeAnswer, SegmentIdx, SegmentRange, found_range, no_range};
 use pageset::{PageSet, form, sets};
 
 // Where a frame lies: from start up to but not at end, and from its first page to its last.

@@ -1,6 +1,7 @@
 // The walk of a snapshot, gift by gift: a commit gets the pages of its set, up to the page count, that no earlier commit of the path holds. A gift is made as masks beside the windows of the
 // commit's set, which stay where they stand. What the notes know of the pages that earlier commits hold is taken from it at once; only for what they do not know the earlier commits are asked.
 #![tactic(auto)]
+
 pub mod paths;
 
 ghost use Rattle.std.specs.Prelude.{◌≡◌, ◌+◌, ◌*◌, ◌<◌, ◌≤◌, true, not, ◌∷◌, length};
@@ -21,8 +22,8 @@ ghost use Rattle.gifts.specs.Paths.{places_in, Inside, commits_at, before};
 ghost use Rattle.gifts.specs.Steps.{step_from, GiftIn, found_from};
 ghost use Rattle.gifts.specs.Held.{Clear, held_by, less_all, Small, AsSorted};
 
-use commits::{Place, has_segment_at, row};
 use basics::page_count::PageCount;
+use commits::{Place, has_segment_at, row};
 use masks::{kept, less, more, none_left, put_given};
 use notes::note;
 use octets::{load32, load64};

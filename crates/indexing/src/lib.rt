@@ -1,6 +1,7 @@
 // What writing a commit adds to the index and to the checkpoints. One index entry per page of its set: they are made one at a time, from the set's last page
 // down, so that no buffer holds them all. And a checkpoint for each LSN that it lists, at most eight, in any order and with repeats.
 #![tactic(auto)]
+
 ghost use Rattle.std.specs.Prelude.{◌≡◌, ◌≤◌, true};
 ghost use Rattle.pageset.specs.Sets.{shown, normal};
 ghost use Rattle.table.specs.Table.{runs, recs, laid, well_ordered, fits};

@@ -1,5 +1,6 @@
 // The byte forms: every size of the records stands here (docs/TABLES.md shows them), the one key that two tables share is written here, and specs/ says what the bytes mean.
 #![tactic(auto)]
+
 ghost use Rattle.std.specs.Prelude.{◌≡◌, ◌+◌, ◌≤◌, length};
 ghost use Rattle.octets.specs.Bytes.{put};
 ghost use Rattle.layout.specs.Records.{log_lsn_bytes};

@@ -1,6 +1,7 @@
 // The calls that answer a list: volumes, tags, a range's stored LSNs, a snapshot's commits. Each answers on every input, 20 first and 19 last. The entries are counted
 // before the first is put, so that a list that is too short stays as found.
 #![tactic(auto)]
+
 ghost use Rattle.std.specs.Prelude.{◌≡◌, ◌+◌, ◌-◌, ◌*◌, ◌<◌, ◌≤◌, true, map, length};
 ghost use Rattle.octets.specs.Bytes.{put};
 ghost use Rattle.octets.specs.Flat.{flat};
@@ -19,9 +20,9 @@ ghost use Rattle.listcalls.specs.Runs.{rows_put, range_commits, StandsAt, first_
 
 use arguments::Reply;
 use arguments::snapshots::snapshot_arg;
-use commits::commits_formed;
 use basics::id::LogId;
 use basics::lsn::Lsn;
+use commits::commits_formed;
 use layout::{COMMIT, TAG, VOLUME};
 use resultlists::snapshot_code;
 use table::Run;

@@ -1,5 +1,6 @@
 // Lookups among the checkpoints and in the page index: each is one find of a key, and a test of the record that stands there.
 #![tactic(auto)]
+
 ghost use Rattle.std.specs.Prelude.{◌≡◌, ◌+◌, ◌≤◌, true, length};
 ghost use Rattle.octets.specs.Bytes.{part};
 ghost use Rattle.rules.specs.Lists.{first};

@@ -1,5 +1,6 @@
 // The windows of a set that stand in bytes, with masks of their own beside them: what is left of a set while pages are taken from it, without a copy of the set.
 #![tactic(auto)]
+
 ghost use Rattle.std.specs.Prelude.{◌≡◌, true, ◌+◌, ◌*◌, ◌<◌, ◌≤◌, length, replicate};
 ghost use Rattle.octets.specs.Bytes.{put};
 ghost use Rattle.octets.specs.Flat.{flat};

@@ -1,6 +1,7 @@
 // Missing frames: those that meet a gift of the walk and whose set's first page is not present. `next_missing` yields one after another and stores nothing; the call goes over the items
 // and, of each, over the frames where they stand: once to count, and once to put.
 #![tactic(auto)]
+
 ghost use Rattle.std.specs.Prelude.{◌≡◌, ◌+◌, ◌-◌, ◌/◌, ◌<◌, ◌≤◌, true, ◌&&◌, length, take};
 ghost use Rattle.octets.specs.Bytes.{put};
 ghost use Rattle.octets.specs.Flat.{flat};
@@ -19,9 +20,9 @@ ghost use Rattle.missingcalls.specs.Entries.{entered, Entries};
 
 use arguments::Reply;
 use arguments::snapshots::snapshot_arg;
+use basics::page_count::{MaybePage, PageCount};
 use commit::SegmentRange;
 use commits::{Place, commits_formed, row};
-use basics::page_count::{MaybePage, PageCount};
 use entries::presence_formed;
 use gifts::next_set;
 use gifts::paths::{Path, path_of};

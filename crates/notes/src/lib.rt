@@ -2,6 +2,7 @@
 // 64 places, place s for one of the windows of number s modulo 64: its tag is that number divided by 64, its mask the pages of the window that are held. And 4,096 marks, bit by bit: a
 // window whose mark (its number modulo 4,096) is not set has no page that is held.
 #![tactic(auto)]
+
 ghost use Rattle.std.specs.Prelude.{◌≡◌, length};
 ghost use Rattle.notes.specs.Known.{AsNoted};
 

@@ -1,5 +1,6 @@
 // Bytes at places of a lent slice: big-endian numbers, runs of bytes, the order of byte strings, and moves.
 #![tactic(auto)]
+
 ghost use Rattle.std.specs.Prelude.{◌≡◌, reverse, ◌+◌, ◌*◌, ◌%◌, ◌≤◌, ◌<◌, length};
 ghost use Rattle.octets.specs.Bytes.{be, bytes_of, part, put, all_zero};
 ghost use Rattle.octets.specs.Order.{order, lex, is_less, is_equal};

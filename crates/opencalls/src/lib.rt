@@ -1,5 +1,6 @@
 // Open: an asked volume that is stored is answered, else a new one is made, with spares for what was not asked. A plan decides and stores nothing. It answers on every input, 20 first.
 #![tactic(auto)]
+
 ghost use Rattle.std.specs.Prelude.{◌≡◌, true, ◌&&◌, ◌||◌};
 ghost use Rattle.basics.specs.Answers.{code};
 ghost use Rattle.rules.specs.Lists.{any};
@@ -13,10 +14,10 @@ ghost use Rattle.layout.specs.Tables.{volumes_in, volumes_ok, commits_in, commit
 ghost use Rattle.layout.specs.Lent.{lent, after};
 ghost use Rattle.opencalls.specs.Opens.{asked_says, asked, spares, open_in, out_after, new_volume, all_free, AskedAt, Planned};
 
-use commits::{Place, commits_formed, lsn_at};
 use basics::commit_hash;
 use basics::id::LogId;
 use basics::lsn::Lsn;
+use commits::{Place, commits_formed, lsn_at};
 use layout::VOLUME;
 use octets::same_id;
 use table::Spot;

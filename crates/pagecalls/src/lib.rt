@@ -1,6 +1,7 @@
 // The calls on page sets. Each answers on every input, sets that are not in normal form among them: the numbers 1, 2 and 3 of all arguments
 // in turn, then 22.
 #![tactic(auto)]
+
 ghost use Rattle.std.specs.Prelude.{◌≡◌, false};
 ghost use Rattle.basics.specs.Answers.{done};
 ghost use Rattle.basics.specs.Says.{maybe_page_says};

@@ -1,6 +1,7 @@
 // The pages of a set from the last down. A walk has come to windows that are not yet begun, the first n of the set, and to what is left of one window;
 // each step yields the last page that is left, in a time that does not depend on the set.
 #![tactic(auto)]
+
 ghost use Rattle.std.specs.Prelude.{◌≡◌, ◌+◌, ◌-◌, ◌<◌};
 ghost use Rattle.pagesdown.specs.Down.{LastOf, under, Stepped};
 

@@ -1,6 +1,7 @@
 // Page sets: at most 32 windows of 64 pages each, by value.
 // `form` tests a set's form, `sets` works on sets in normal form. The crate `pagecalls` has the calls that answer on every input.
 #![tactic(auto)]
+
 pub mod bits;
 pub mod form;
 pub mod sets;

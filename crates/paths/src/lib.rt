@@ -1,6 +1,7 @@
 // The commits of a path, one at a time: the ranges in path order, LSN falling. What is left of a path is a path again, its first range lowered below the commit that was met, so that
 // it stays good while commits of other logs are stored.
 #![tactic(auto)]
+
 ghost use Rattle.std.specs.Prelude.{◌≡◌, ◌+◌, ◌-◌, ◌<◌, ◌≤◌, true, length};
 ghost use Rattle.rules.specs.Lists.{first};
 ghost use Rattle.rules.specs.Walk.{in_range, path_commits};
@@ -9,10 +10,10 @@ ghost use Rattle.layout.specs.Tables.{commits_in, commits_ok};
 ghost use Rattle.commits.specs.Places.{PlaceOf};
 ghost use Rattle.paths.specs.Left.{leading, is_left, left_says, left_without, Meets};
 
-use commits::{Place, lsn_at, range_run};
 use basics::id;
 use basics::id::LogId;
 use basics::lsn::Lsn;
+use commits::{Place, lsn_at, range_run};
 use volume::snapshot::LogRange;
 
 // What is left of a path: its ranges from `at` up to `len`.

@@ -1,5 +1,6 @@
 // The table of present pages: lookups, marks and removals, in the words of document 01's tables. A record is its key.
 #![tactic(auto)]
+
 ghost use Rattle.std.specs.Prelude.{◌≡◌, ◌<◌, true};
 ghost use Rattle.basics.specs.Orders.{sid_page};
 ghost use Rattle.rules.specs.Lists.{any, is_some};

@@ -1,5 +1,6 @@
 // The calls on present pages: whether a page is, mark one, remove one, remove a range. Each answers on every input: 20, then 1 for page 0.
 #![tactic(auto)]
+
 ghost use Rattle.std.specs.Prelude.{◌≡◌};
 ghost use Rattle.basics.specs.Answers.{code};
 ghost use Rattle.pagecalls.specs.Says.{yes_says};

@@ -1,6 +1,7 @@
 // The calls that end a push: success stores the pushed commit and moves the volume's sync point to it, recover finds out what became of a push. A plan decides and
 // stores nothing; then one function stores. Each answers on every input, 20 first.
 #![tactic(auto)]
+
 ghost use Rattle.std.specs.Prelude.{◌≡◌, ℕ, ◌+◌, ◌*◌, ◌<◌, true, ◌&&◌, ◌==◌};
 ghost use Rattle.std.proofs.Math.Option.{some};
 ghost use Rattle.octets.specs.Bytes.{part};
@@ -18,11 +19,11 @@ ghost use Rattle.layout.specs.Lent.{lent, after};
 ghost use Rattle.writecalls.specs.Written.{IsCommit, commit_in, logs_in};
 ghost use Rattle.pushcalls.specs.Pushes.{push_ok, commit_asked, success_in, success_found, number_of, Stands, Ready, PushedAt, DroppedAt, Planned, Recovers, RecoversFound};
 
-use commitbytes::{commit_form, commit_lsns_ok, fields};
-use commits::{Place, find_commit, hash_is};
 use basics::commit_hash;
 use basics::commit_hash::CommitHash;
 use basics::id::VolumeId;
+use commitbytes::{commit_form, commit_lsns_ok, fields};
+use commits::{Place, find_commit, hash_is};
 use layout::COMMIT;
 use table::Spot;
 use volume::volume::{MaybeLsn, PendingCommit, Sync, SyncPoint, Volume};

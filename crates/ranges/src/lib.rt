@@ -1,5 +1,6 @@
 // Runs of a segment's bytes: their size, and joining two that touch.
 #![tactic(auto)]
+
 ghost use Rattle.std.specs.Prelude.{◌≡◌, ◌-◌, ◌≤◌, true};
 ghost use Rattle.std.proofs.Math.Option.{some};
 ghost use Rattle.pageset.specs.Sets.{normal};
@@ -7,8 +8,8 @@ ghost use Rattle.rules.specs.Frames.{joined_part};
 ghost use Rattle.commit.specs.Says.{Tells};
 ghost use Rattle.ranges.specs.Rules.{join_rule, both_of};
 
-use commit::{RangeAnswer, SegmentRange, found_range, no_range};
 use basics::id;
+use commit::{RangeAnswer, SegmentRange, found_range, no_range};
 use pageset::{form, sets};
 
 // The number of bytes of a range that does not end before it starts.

@@ -1,6 +1,7 @@
 // Result lists in lent bytes: what is copied into one, and the check of the snapshot that many are asked of. The definitions and laws of lists hold for every
 // byte form of an entry.
 #![tactic(auto)]
+
 ghost use Rattle.std.specs.Prelude.{◌≡◌, ◌+◌, ◌≤◌, length};
 ghost use Rattle.octets.specs.Bytes.{part, put};
 ghost use Rattle.basics.specs.Answers.{code};

@@ -1,6 +1,7 @@
 // Save: a commit of pages on a volume's local log, all or nothing over four tables. `save_plan` decides and stores nothing, `save_stored` asks for room and stores,
 // `save` is the call. It answers on every input, 20 first.
 #![tactic(auto)]
+
 ghost use Rattle.std.specs.Prelude.{◌≡◌, ◌≤◌, true, false, length};
 ghost use Rattle.basics.specs.Answers.{refused as refused_with, code};
 ghost use Rattle.pageset.specs.Sets.{shown, normal};

@@ -1,5 +1,6 @@
 // What a save adds: its LSN, whether its segment is in use, its commit in bytes, and its pages, which become present.
 #![tactic(auto)]
+
 ghost use Rattle.std.specs.Prelude.{◌≡◌, ◌+◌, ◌*◌, ◌≤◌, true, false, length};
 ghost use Rattle.octets.specs.Bytes as B;
 ghost use Rattle.basics.specs.Says.{lsn_says};
@@ -16,12 +17,12 @@ ghost use Rattle.layout.specs.Tables.{commits_in, commits_ok, presence_in, prese
 ghost use Rattle.presence.specs.Pages.{of_segment};
 ghost use Rattle.saves.specs.Added.{filled};
 
-use commit::{Commit, SegmentIdx, no_checkpoints};
-use commits::{Place, lsn_at, sid_is};
 use basics::id::{LogId, SegmentId};
 use basics::lsn::{Lsn, LsnAnswer};
 use basics::page_count::PageCount;
 use basics::pageidx::PageIdx;
+use commit::{Commit, SegmentIdx, no_checkpoints};
+use commits::{Place, lsn_at, sid_is};
 use entries::present_key;
 use layout::PRESENT;
 use pageset::{PageSet, Window, sets};

@@ -1,5 +1,6 @@
 // The calls that look a page or a checkpoint up: search in a snapshot, and the highest checkpoint at or below an LSN. Each answers on every input, 20 first.
 #![tactic(auto)]
+
 ghost use Rattle.std.specs.Prelude.{◌≡◌, ◌≤◌, true, ◌&&◌, map, length, take};
 ghost use Rattle.basics.specs.Says.{maybe_lsn_says};
 ghost use Rattle.rules.specs.Search.{search_path};
@@ -13,10 +14,10 @@ ghost use Rattle.searchcalls.specs.Searches.{Within, hit_says, HitOf, entry_comm
 
 use arguments::Reply;
 use arguments::snapshots::{snapshot_arg, snapshot_ok};
-use commits::{Place, commits_formed, find_commit};
 use basics::id::LogId;
 use basics::lsn::{Lsn, MaybeLsnAnswer};
 use basics::pageidx::PageIdx;
+use commits::{Place, commits_formed, find_commit};
 use entries::{checkpoints_formed, index_formed};
 use layout::COMMIT;
 use lookups::entry_in;

@@ -1,5 +1,6 @@
 // Segments and ranges of a segment in bytes as arguments, and ranges as answers.
 #![tactic(auto)]
+
 pub mod lists;
 
 ghost use Rattle.std.specs.Prelude.{◌≡◌, true};

@@ -12,8 +12,8 @@ ghost use Rattle.segmentargs.specs.Segments.{segment_arg};
 ghost use Rattle.segmentargs.specs.Lists.{segment_in, Nth, run_in, IsFrame};
 
 use arguments::Reply;
-use commit::{Frame, SegmentRange};
 use basics::pageidx::PageIdx;
+use commit::{Frame, SegmentRange};
 use frames::Run;
 use layout::{RANGE, SEGMENT};
 use octets::{load_id, load32, load64};

@@ -10,8 +10,8 @@ ghost use Rattle.layout.specs.Values.{frame_bytes, frames_bytes};
 ghost use Rattle.segmentbytes.specs.Laid.{frames_at, frame_laid, frames_laid, IsLaid};
 ghost use Rattle.segmentbytes.specs.Domain.{domain, frames_from};
 
-use commit::{Frame, no_frames};
 use basics::pageidx::PageIdx;
+use commit::{Frame, no_frames};
 use octets::{all_zero, load8, load32, load64, store8, store32, store64};
 use setbytes::count_read;
 

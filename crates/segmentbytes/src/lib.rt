@@ -1,6 +1,7 @@
 // Segments and ranges of a segment in bytes (docs/TABLES.md): a segment is 594 bytes, its identifier, its page set and its frames; a range 417, its identifier,
 // its first byte, the byte after its last, and its pages. `frames` has the frames alone.
 #![tactic(auto)]
+
 pub mod frames;
 
 ghost use Rattle.std.specs.Prelude.{◌≡◌, ◌+◌, ◌≤◌, true, length};
@@ -12,8 +13,8 @@ ghost use Rattle.layout.specs.Codecs.{Codec, in_form};
 ghost use Rattle.layout.specs.Values.{set_bytes, segment_bytes, part_bytes};
 ghost use Rattle.segmentbytes.specs.Laid.{segment_laid, range_laid, part_form};
 
-use commit::{SegmentIdx, SegmentRange};
 use basics::page_count::MaybePage;
+use commit::{SegmentIdx, SegmentRange};
 use octets::{load_id, load64, store_id, store64};
 use setbytes::{set_first, set_form, set_read, set_write};
 

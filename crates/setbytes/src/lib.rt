@@ -1,5 +1,6 @@
 // A page set in bytes: the number of windows, and 32 places of 12 bytes, a window's index and its mask; zero past the windows that count.
 #![tactic(auto)]
+
 ghost use Rattle.std.specs.Prelude.{◌≡◌, ◌+◌, ◌-◌, ◌*◌, ◌≤◌, min, true, ◌&&◌, ◌++◌, length, replicate};
 ghost use Rattle.octets.specs.Bytes.{be, part, put};
 ghost use Rattle.octets.specs.Flat.{flat};

@@ -2,6 +2,7 @@
 // Numbers 1 and 2 of a snapshot that is an argument in bytes are those of the value that is read: reading asks no form, and the value has the first
 // ranges, at most 8 of them (`Snapshot::has_lsns`, `Snapshot::is_ordered`). Number 3 is `snapshot_form`.
 #![tactic(auto)]
+
 ghost use Rattle.std.specs.Prelude.{◌≡◌, ◌+◌, ◌-◌, ◌*◌, ◌≤◌, min, true, ◌++◌, map, length, replicate};
 ghost use Rattle.octets.specs.Bytes.{be, part, put};
 ghost use Rattle.octets.specs.Flat.{flat};

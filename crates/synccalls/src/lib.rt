@@ -1,5 +1,6 @@
 // The calls that move a volume's sync point and its pending commit by what the logs hold: sync, and prepare of a push. Each answers on every input, 20 first.
 #![tactic(auto)]
+
 ghost use Rattle.std.specs.Prelude.{◌≡◌, true, ◌&&◌};
 ghost use Rattle.std.proofs.Math.Option.{some};
 ghost use Rattle.basics.specs.Answers.{code};
@@ -16,11 +17,11 @@ ghost use Rattle.layout.specs.Tables.{volumes_in, volumes_ok, commits_in, commit
 ghost use Rattle.layout.specs.Lent.{lent, after};
 ghost use Rattle.synccalls.specs.Pulls.{sync_found, Pulls};
 
-use commits::{Place, commits_formed, lsn_at};
 use basics::commit_hash;
 use basics::commit_hash::CommitHash;
 use basics::id::{LogId, VolumeId};
 use basics::lsn::Lsn;
+use commits::{Place, commits_formed, lsn_at};
 use table::Spot;
 use viewcalls::{is_below, remote_of, watermark_of};
 use volume::volume::{ChangesAnswer, MaybeLsn, PendingCommit, Sync, SyncPoint, Volume, changes};

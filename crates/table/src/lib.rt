@@ -1,6 +1,7 @@
 // One ordered table of records of one size in a lent byte slice: two bytes of count, then the records, `stride` bytes each,
 // whose first `klen` bytes are the key, in strictly rising byte order of keys. What lies past the last record is not part of the table.
 #![tactic(auto)]
+
 ghost use Rattle.std.specs.Prelude.{◌≡◌, true, ◌+◌, ◌*◌, ◌≤◌, ◌<◌, length, set};
 ghost use Rattle.table.specs.Records.{rises, spot, place, past, inserted, removed, put};
 ghost use Rattle.table.specs.Table.{runs, count_of, cap_of, recs, laid, well_ordered, holds, fits};

@@ -1,5 +1,6 @@
 // Answers of the calls over tables as a reply and what is lent: written where there is an answer under 0, else as found.
 #![tactic(auto)]
+
 ghost use Rattle.std.specs.Prelude.{◌≡◌};
 ghost use Rattle.commitcalls.specs.Says.{found_says, maybe_count_says};
 ghost use Rattle.arguments.specs.Replies.{value_or, yes_or_no};

@@ -1,5 +1,6 @@
 // The calls on tags: read, exists, delete and replace. Each answers on every input: 20, then 1 for a name that is not of 1 to 32 bytes.
 #![tactic(auto)]
+
 ghost use Rattle.std.specs.Prelude.{◌≡◌, true};
 ghost use Rattle.basics.specs.Answers.{refused, done, code};
 ghost use Rattle.pagecalls.specs.Says.{yes_says};

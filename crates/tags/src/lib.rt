@@ -1,5 +1,6 @@
 // Tags in lent bytes: a tag's form and bytes (50 of them, docs/TABLES.md), and their table: its form, lookups, and stores, in the words of document 01's tables.
 #![tactic(auto)]
+
 ghost use Rattle.std.specs.Prelude.{◌≡◌, ◌+◌, ◌<◌, ◌≤◌, true, length};
 ghost use Rattle.std.proofs.Math.Option.{some, map};
 ghost use Rattle.octets.specs.Bytes.{be, part};

@@ -1,5 +1,6 @@
 // What a reader sees of a volume, with snapshots in bytes: the call by value is made once, and the numbers of the bytes take their turn in its answer.
 #![tactic(auto)]
+
 ghost use Rattle.std.specs.Prelude.{◌≡◌, ◌&&◌};
 ghost use Rattle.pagecalls.specs.Says.{yes_says};
 ghost use Rattle.rules.specs.Snapshots.{snapshot as snapshot_rule};

@@ -1,5 +1,6 @@
 // The calls on what a reader sees of a volume: its snapshot, and whether a snapshot is the latest. Each answers on every input, 20 first.
 #![tactic(auto)]
+
 ghost use Rattle.std.specs.Prelude.{◌≡◌, ◌≤◌, true, ◌&&◌, [], ◌∷◌, take};
 ghost use Rattle.basics.specs.Answers.{refused};
 ghost use Rattle.pagecalls.specs.Says.{yes_says};
@@ -12,11 +13,11 @@ ghost use Rattle.layout.specs.Tables.{volumes_in, volumes_ok, commits_in, commit
 ghost use Rattle.layout.specs.Lent.{lent};
 ghost use Rattle.viewcalls.specs.Checks.{latest_by, checked};
 
-use commits::{Place, commits_formed, count_at, find_commit, lsn_at};
 use basics::id;
 use basics::id::{LogId, VolumeId};
 use basics::lsn::Lsn;
 use basics::page_count::PageCount;
+use commits::{Place, commits_formed, count_at, find_commit, lsn_at};
 use pagecalls::YesAnswer;
 use table::Spot;
 use volume::snapshot::{LogRange, Snapshot, SnapshotAnswer};

@@ -1,5 +1,6 @@
 // A volume in bytes: its form, its value and its bytes at a place of a lent slice (docs/TABLES.md).
 #![tactic(auto)]
+
 pub mod pending;
 pub mod sync;
 

@@ -1,5 +1,6 @@
 // The calls on volumes alone: read, exists, delete, and drop of a pending commit. Each answers on every input, 20 first.
 #![tactic(auto)]
+
 ghost use Rattle.std.specs.Prelude.{◌≡◌};
 ghost use Rattle.basics.specs.Answers.{refused, code};
 ghost use Rattle.pagecalls.specs.Says.{yes_says};

@@ -1,5 +1,6 @@
 // The table of volumes in lent bytes: its form, lookups, and stores, in the words of document 01's tables.
 #![tactic(auto)]
+
 ghost use Rattle.std.specs.Prelude.{◌≡◌, ◌<◌, true, ◌∷◌};
 ghost use Rattle.std.proofs.Math.Option.{some, map};
 ghost use Rattle.basics.specs.Orders.{bytes};

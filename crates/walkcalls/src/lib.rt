@@ -1,5 +1,6 @@
 // The walk of a snapshot into a lent list: an item for each commit that gets pages. The items are counted before the first is put, unless the list has room for every commit of the path.
 #![tactic(auto)]
+
 ghost use Rattle.std.specs.Prelude.{◌≡◌, ◌+◌, ◌/◌, ◌<◌, ◌≤◌, true, length, nat_le};
 ghost use Rattle.octets.specs.Bytes.{put};
 ghost use Rattle.octets.specs.Flat.{flat};
@@ -20,8 +21,8 @@ ghost use Rattle.walkcalls.specs.Items.{item_bytes};
 
 use arguments::Reply;
 use arguments::snapshots::snapshot_arg;
-use commits::{Place, commits_formed, lsn_at, row};
 use basics::page_count::PageCount;
+use commits::{Place, commits_formed, lsn_at, row};
 use gifts::paths::{Path, at_most, path_of};
 use gifts::{next_gift, put_gift};
 use layout::SEGMENT;

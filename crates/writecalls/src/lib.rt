@@ -1,6 +1,7 @@
 // Writing a commit, given as its 722 bytes, to its three tables: `write_plan` decides and stores nothing, `write_fresh` stores what was planned, `write_commit` is the call.
 // Other calls that write a commit ask `write_room` and then `write_stored`.
 #![tactic(auto)]
+
 ghost use Rattle.std.specs.Prelude.{◌≡◌, true};
 ghost use Rattle.basics.specs.Answers.{code};
 ghost use Rattle.basics.specs.Orders.{log_lsn, log_page_lsn};

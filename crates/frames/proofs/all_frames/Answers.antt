@@ -2,7 +2,7 @@
 use Rattle.std.proofs.Common.{◌+◌, ◌-◌, ◌≤◌, length, arith}
 use Rattle.commit.proofs.RecordLaws.{long_of}
 use Rattle.frames.proofs.PlaceLaws.{ok_normal, ok_few}
-use Rattle.frames.proofs.ListLaws.{walk_starts, next_fits, walks_on, walk_ends, parts_long}
+use Rattle.frames.proofs.ListLaws.{walk_starts, next_fits, next_page_lem, walks_on, walk_ends, parts_long}
 use Rattle.frames.proofs.all_frames.Goals as goal
 
 pub before_first-below-requires : goal.before_first-below-requires
@@ -22,6 +22,11 @@ overflow_add-end c =
     let long : c.args.s.len ≤ length c.args.s.frames = omega (arith, long_of c.args.s _ c.well_formed.0, ok_few c.args.s c.requires) in
     let d = c.loop-i in
     omega (arith, next_fits c.args.s (long) _ d.i d.start (d.below + 1) d.frames d.invariant.2 (omega arith) (omega arith))
+
+pub overflow_add-first : goal.overflow_add-first
+overflow_add-first c =
+    let d = c.loop-i in
+    omega (arith, next_page_lem c.args.s (omega (arith, long_of c.args.s _ c.well_formed.0, ok_few c.args.s c.requires)) _ d.i d.start (d.below + 1) d.frames d.invariant.2 (omega arith) (omega arith))
 
 pub frame_at-requires : goal.frame_at-requires
 frame_at-requires c = record { pages_value = ok_normal c.args.s c.requires; first_nonzero = omega arith }

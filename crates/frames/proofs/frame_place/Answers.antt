@@ -17,10 +17,16 @@ pub in_lent-requires : goal.in_lent-requires
 in_lent-requires c = let h = rw c.in-At.is at c.locate-place.ensures.placed in h.0
 
 pub returns-in-At : goal.returns-in-At
-returns-in-At c = record { says = c.in_lent.ensures.says
+returns-in-At c = record {
+  says = c.in_lent.ensures.says
       ∙ bytes_place c.args.s c.args.page.0 c.args.lent _ (omega arith) (sym c.frames_ok.ensures ∙ c.if-not-frames_ok.false)
-      (ap (place_says c.args.s) (sym c.in-At.is) ∙ c.locate-place.ensures.says); within = (c.in_lent.ensures.within) }
+      (ap (place_says c.args.s) (sym c.in-At.is) ∙ c.locate-place.ensures.says);
+  within = (c.in_lent.ensures.within);
+}
 
 pub returns-in-Nothing : goal.returns-in-Nothing
-returns-in-Nothing c = record { says = bytes_place c.args.s c.args.page.0 c.args.lent _ (omega arith) (sym c.frames_ok.ensures ∙ c.if-not-frames_ok.false)
-      (ap (place_says c.args.s) (sym c.in-Nothing.is) ∙ c.locate-place.ensures.says); within = (tt) }
+returns-in-Nothing c = record {
+  says = bytes_place c.args.s c.args.page.0 c.args.lent _ (omega arith) (sym c.frames_ok.ensures ∙ c.if-not-frames_ok.false)
+      (ap (place_says c.args.s) (sym c.in-Nothing.is) ∙ c.locate-place.ensures.says);
+  within = (tt);
+}

@@ -9,7 +9,7 @@ use Rattle.gifts.proofs.next_set.Goals as goal
 pub returns-in_default : goal.returns-in_default
 returns-in_default c = let t = c.args.commits.now in
     let ps = places_in c.args.path.runs in
-    let g = c.next_gift-step in record { value = found_missing t ps c.requires.commits_value.0 c.requires.commits_value.1 c.args.count.0 c.args.from g.result g.ensures.0 c.empty-gift.result c.empty-gift.ensures c.in_default.is; known_2 = g.ensures.1.1 }
+    let g = c.next_gift-step in record { value = found_missing t ps c.requires.commits_value.0 c.requires.commits_value.1 c.args.count.0 c.args.from g.result g.ensures.value c.empty-gift.result c.empty-gift.ensures c.in_default.is; known_2 = g.ensures.known_2 }
 
 pub gift_set-gift-requires : goal.gift_set-gift-requires
 gift_set-gift-requires c = let t = c.args.commits.now in
@@ -17,11 +17,11 @@ gift_set-gift-requires c = let t = c.args.commits.now in
     let g = c.next_gift-step in
     let i = c.in-At.i in
     let e = c.in-At.is in
-    let s = step_found t ps c.requires.commits_value.0 c.requires.commits_value.1 c.args.count.0 c.args.from g.result g.ensures.0 i e in record { commits_value = (c.requires.commits_value.0, s.below, s.has); left_value = (ap normal_form (g.ensures.1.0 i e) ∙ s.normal, search rules) }
+    let s = step_found t ps c.requires.commits_value.0 c.requires.commits_value.1 c.args.count.0 c.args.from g.result g.ensures.value i e in record { commits_value = (c.requires.commits_value.0, s.below, s.has); left_value = (ap normal_form (g.ensures.gift_in i e) ∙ s.normal, search rules) }
 
 pub returns : goal.returns
 returns c = let t = c.args.commits.now in
     let ps = places_in c.args.path.runs in
     let g = c.next_gift-step in
     let i = c.in-At.i in
-    let e = c.in-At.is in record { value = found_is t ps c.requires.commits_value.0 c.requires.commits_value.1 c.args.count.0 c.args.from g.result g.ensures.0 i c.gift_set-gift.result _ e c.gift_set-gift.ensures (g.ensures.1.0 i e); known_2 = g.ensures.1.1 }
+    let e = c.in-At.is in record { value = found_is t ps c.requires.commits_value.0 c.requires.commits_value.1 c.args.count.0 c.args.from g.result g.ensures.value i c.gift_set-gift.result _ e c.gift_set-gift.ensures (g.ensures.gift_in i e); known_2 = g.ensures.known_2 }

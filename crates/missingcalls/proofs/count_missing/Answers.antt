@@ -23,28 +23,25 @@ pub returns-in_default : goal.returns-in_default
 returns-in_default c =
     let l = c.loop-i in
     let g = c.next_set-step in
-    let z = found_none c.args.commits.now (places_in c.args.path.runs) c.requires.0 c.requires.2 c.args.count.0 l.k g.result g.ensures.0 c.in_default.is in
+    let z = found_none c.args.commits.now (places_in c.args.path.runs) c.requires.0 c.requires.2 c.args.count.0 l.k g.result g.ensures.value c.in_default.is in
     omega (arith, l.invariant.0, ap (λ (items : List Item). length (missing_of (presence_in c.args.presence.now) items)) z)
 
 pub put_frames-n-requires : goal.put_frames-n-requires
 put_frames-n-requires c = let l = c.loop-i in
     let g = c.next_set-step in
-    let at = c.at-1 in
-    let s = found_at c.args.commits.now (places_in c.args.path.runs) c.requires.0 c.requires.2 c.args.count.0 l.k g.result g.ensures.0 at.given.0.0 at.given.1 in record { commits_value = (c.requires.0, c.requires.1, (s.below, s.has), s.normal); from_bound = omega (arith, l.invariant.0, missing_few (presence_in c.args.presence.now) c.args.commits.now (places_in c.args.path.runs) c.args.count.0 c.requires.0 c.requires.2) }
+    let s = found_at c.args.commits.now (places_in c.args.path.runs) c.requires.0 c.requires.2 c.args.count.0 l.k g.result g.ensures.value c.in-At.i c.in-At.is in record { commits_value = (c.requires.0, c.requires.1, (s.below, s.has), s.normal); from_bound = omega (arith, l.invariant.0, missing_few (presence_in c.args.presence.now) c.args.commits.now (places_in c.args.path.runs) c.args.count.0 c.requires.0 c.requires.2) }
 
 pub loop-i-smaller : goal.loop-i-smaller
 loop-i-smaller c =
     let l = c.loop-i in
     let g = c.next_set-step in
-    let at = c.at-1 in
-    let s = found_at c.args.commits.now (places_in c.args.path.runs) c.requires.0 c.requires.2 c.args.count.0 l.k g.result g.ensures.0 at.given.0.0 at.given.1 in
+    let s = found_at c.args.commits.now (places_in c.args.path.runs) c.requires.0 c.requires.2 c.args.count.0 l.k g.result g.ensures.value c.in-At.i c.in-At.is in
     omega (arith, s.later, s.few)
 
 pub loop-i-preserved : goal.loop-i-preserved
 loop-i-preserved c =
     let l = c.loop-i in
     let g = c.next_set-step in
-    let at = c.at-1 in
-    let s = found_at c.args.commits.now (places_in c.args.path.runs) c.requires.0 c.requires.2 c.args.count.0 l.k g.result g.ensures.0 at.given.0.0 at.given.1 in
-    let f = (frames_left (presence_in c.args.presence.now) (shown g.result.gift) (frames_at c.args.commits.now at.given.0.0) 0) in
-    (omega (arith, l.invariant.0, c.put_frames-n.ensures.value, ap length (item_left c.args.commits.now (presence_in c.args.presence.now) c.args.count.0 (places_in c.args.path.runs) c.requires.0 c.requires.2 l.k g.result at.given.0.0 s), length-append f (missing_of (presence_in c.args.presence.now) (items_from c.args.commits.now c.args.count.0 (places_in c.args.path.runs) g.result.next))), search rules, g.ensures.1)
+    let s = found_at c.args.commits.now (places_in c.args.path.runs) c.requires.0 c.requires.2 c.args.count.0 l.k g.result g.ensures.value c.in-At.i c.in-At.is in
+    let f = (frames_left (presence_in c.args.presence.now) (shown g.result.gift) (frames_at c.args.commits.now c.in-At.i) 0) in
+    (omega (arith, l.invariant.0, c.put_frames-n.ensures.value, ap length (item_left c.args.commits.now (presence_in c.args.presence.now) c.args.count.0 (places_in c.args.path.runs) c.requires.0 c.requires.2 l.k g.result c.in-At.i s), length-append f (missing_of (presence_in c.args.presence.now) (items_from c.args.commits.now c.args.count.0 (places_in c.args.path.runs) g.result.next))), search rules, g.ensures.known_2)

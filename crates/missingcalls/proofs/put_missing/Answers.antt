@@ -31,31 +31,28 @@ shape_of-list-in_default c =
 pub returns-in_default : goal.returns-in_default
 returns-in_default c = let l = c.loop-i in
     let g = c.next_set-step in
-    let z = ap (missing_of (presence_in c.args.presence.now)) (found_none c.args.commits.now (places_in c.args.path.runs) c.requires.commits_value.0 c.requires.commits_value.2 c.args.count.0 l.k g.result g.ensures.0 c.in_default.is) in
+    let z = ap (missing_of (presence_in c.args.presence.now)) (found_none c.args.commits.now (places_in c.args.path.runs) c.requires.commits_value.0 c.requires.commits_value.2 c.args.count.0 l.k g.result g.ensures.value c.in_default.is) in
     let m = put_number part_bytes 417 c.args.list.now (missing_of (presence_in c.args.presence.now) (items_from c.args.commits.now c.args.count.0 (places_in c.args.path.runs) 0)) l.n l.list _ l.invariant.0 z in record { value = (m, omega (arith, m, missing_few (presence_in c.args.presence.now) c.args.commits.now (places_in c.args.path.runs) c.args.count.0 c.requires.commits_value.0 c.requires.commits_value.2)); list_after = put_all part_bytes 417 c.args.list.now (missing_of (presence_in c.args.presence.now) (items_from c.args.commits.now c.args.count.0 (places_in c.args.path.runs) 0)) l.n l.list _ l.invariant.0 z }
 
 pub put_frames-n-requires : goal.put_frames-n-requires
 put_frames-n-requires c = let l = c.loop-i in
     let g = c.next_set-step in
-    let at = c.at-1 in
-    let s = found_at c.args.commits.now (places_in c.args.path.runs) c.requires.commits_value.0 c.requires.commits_value.2 c.args.count.0 l.k g.result g.ensures.0 at.given.0.0 at.given.1 in
-    let p = subst (Putting part_bytes 417 c.args.list.now (missing_of (presence_in c.args.presence.now) (items_from c.args.commits.now c.args.count.0 (places_in c.args.path.runs) 0)) l.n l.list) (item_left c.args.commits.now (presence_in c.args.presence.now) c.args.count.0 (places_in c.args.path.runs) c.requires.commits_value.0 c.requires.commits_value.2 l.k g.result at.given.0.0 s) l.invariant.0 in
-    let f = (frames_left (presence_in c.args.presence.now) (shown g.result.gift) (frames_at c.args.commits.now at.given.0.0) 0) in record { commits_value = (c.requires.commits_value.0, c.requires.commits_value.1, (s.below, s.has), s.normal); from_bound = omega (arith, missing_few (presence_in c.args.presence.now) c.args.commits.now (places_in c.args.path.runs) c.args.count.0 c.requires.commits_value.0 c.requires.commits_value.2, run_few c.args.list.now (missing_of (presence_in c.args.presence.now) (items_from c.args.commits.now c.args.count.0 (places_in c.args.path.runs) 0)) l.n l.list f (missing_of (presence_in c.args.presence.now) (items_from c.args.commits.now c.args.count.0 (places_in c.args.path.runs) g.result.next)) p) }
+    let s = found_at c.args.commits.now (places_in c.args.path.runs) c.requires.commits_value.0 c.requires.commits_value.2 c.args.count.0 l.k g.result g.ensures.value c.in-At.i c.in-At.is in
+    let p = subst (Putting part_bytes 417 c.args.list.now (missing_of (presence_in c.args.presence.now) (items_from c.args.commits.now c.args.count.0 (places_in c.args.path.runs) 0)) l.n l.list) (item_left c.args.commits.now (presence_in c.args.presence.now) c.args.count.0 (places_in c.args.path.runs) c.requires.commits_value.0 c.requires.commits_value.2 l.k g.result c.in-At.i s) l.invariant.0 in
+    let f = (frames_left (presence_in c.args.presence.now) (shown g.result.gift) (frames_at c.args.commits.now c.in-At.i) 0) in record { commits_value = (c.requires.commits_value.0, c.requires.commits_value.1, (s.below, s.has), s.normal); from_bound = omega (arith, missing_few (presence_in c.args.presence.now) c.args.commits.now (places_in c.args.path.runs) c.args.count.0 c.requires.commits_value.0 c.requires.commits_value.2, run_few c.args.list.now (missing_of (presence_in c.args.presence.now) (items_from c.args.commits.now c.args.count.0 (places_in c.args.path.runs) 0)) l.n l.list f (missing_of (presence_in c.args.presence.now) (items_from c.args.commits.now c.args.count.0 (places_in c.args.path.runs) g.result.next)) p) }
 
 pub loop-i-smaller : goal.loop-i-smaller
 loop-i-smaller c =
     let l = c.loop-i in
     let g = c.next_set-step in
-    let at = c.at-1 in
-    let s = found_at c.args.commits.now (places_in c.args.path.runs) c.requires.commits_value.0 c.requires.commits_value.2 c.args.count.0 l.k g.result g.ensures.0 at.given.0.0 at.given.1 in
+    let s = found_at c.args.commits.now (places_in c.args.path.runs) c.requires.commits_value.0 c.requires.commits_value.2 c.args.count.0 l.k g.result g.ensures.value c.in-At.i c.in-At.is in
     omega (arith, s.later, s.few)
 
 pub loop-i-preserved : goal.loop-i-preserved
 loop-i-preserved c =
     let l = c.loop-i in
     let g = c.next_set-step in
-    let at = c.at-1 in
-    let s = found_at c.args.commits.now (places_in c.args.path.runs) c.requires.commits_value.0 c.requires.commits_value.2 c.args.count.0 l.k g.result g.ensures.0 at.given.0.0 at.given.1 in
-    let p = subst (Putting part_bytes 417 c.args.list.now (missing_of (presence_in c.args.presence.now) (items_from c.args.commits.now c.args.count.0 (places_in c.args.path.runs) 0)) l.n l.list) (item_left c.args.commits.now (presence_in c.args.presence.now) c.args.count.0 (places_in c.args.path.runs) c.requires.commits_value.0 c.requires.commits_value.2 l.k g.result at.given.0.0 s) l.invariant.0 in
-    let f = (frames_left (presence_in c.args.presence.now) (shown g.result.gift) (frames_at c.args.commits.now at.given.0.0) 0) in
-    (put_run c.args.list.now (missing_of (presence_in c.args.presence.now) (items_from c.args.commits.now c.args.count.0 (places_in c.args.path.runs) 0)) l.n l.list f (missing_of (presence_in c.args.presence.now) (items_from c.args.commits.now c.args.count.0 (places_in c.args.path.runs) g.result.next)) p c.requires.runs_in_bounds c.put_frames-n.result _ c.put_frames-n.ensures.value c.put_frames-n.ensures.entries, g.ensures.1)
+    let s = found_at c.args.commits.now (places_in c.args.path.runs) c.requires.commits_value.0 c.requires.commits_value.2 c.args.count.0 l.k g.result g.ensures.value c.in-At.i c.in-At.is in
+    let p = subst (Putting part_bytes 417 c.args.list.now (missing_of (presence_in c.args.presence.now) (items_from c.args.commits.now c.args.count.0 (places_in c.args.path.runs) 0)) l.n l.list) (item_left c.args.commits.now (presence_in c.args.presence.now) c.args.count.0 (places_in c.args.path.runs) c.requires.commits_value.0 c.requires.commits_value.2 l.k g.result c.in-At.i s) l.invariant.0 in
+    let f = (frames_left (presence_in c.args.presence.now) (shown g.result.gift) (frames_at c.args.commits.now c.in-At.i) 0) in
+    (put_run c.args.list.now (missing_of (presence_in c.args.presence.now) (items_from c.args.commits.now c.args.count.0 (places_in c.args.path.runs) 0)) l.n l.list f (missing_of (presence_in c.args.presence.now) (items_from c.args.commits.now c.args.count.0 (places_in c.args.path.runs) g.result.next)) p c.requires.runs_in_bounds c.put_frames-n.result _ c.put_frames-n.ensures.value c.put_frames-n.ensures.entries, g.ensures.known_2)

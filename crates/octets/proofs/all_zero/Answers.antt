@@ -15,10 +15,13 @@ loop-i-init c = (search rules, refl)
 pub loop-i-preserved : goal.loop-i-preserved
 loop-i-preserved c =
     let l = c.loop-i in
-    let a = c.args in
-    (search rules, elim c.if-s-at-ne0.branch [
-      then-s-at-ne0 w ↦ w.clean-is ∙ zero_not a.s.now a.at l.i l.clean l.invariant.1 (omega arith) w.if-s-at-ne0.true
-    | else-s-at-ne0 w ↦ w.clean-is ∙ zero_more a.s.now a.at l.i l.clean l.invariant.1 (omega arith) w.if-s-at-ne0.false ])
+    let a = c.args in (
+      search rules,
+      elim c.if-s-at-ne0.branch [
+        | then-s-at-ne0 w ↦ w.clean-is ∙ zero_not a.s.now a.at l.i l.clean l.invariant.1 (omega arith) w.if-s-at-ne0.true
+        | else-s-at-ne0 w ↦ w.clean-is ∙ zero_more a.s.now a.at l.i l.clean l.invariant.1 (omega arith) w.if-s-at-ne0.false
+      ],
+    )
 
 pub returns : goal.returns
 returns c =

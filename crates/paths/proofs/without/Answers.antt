@@ -27,20 +27,21 @@ loop-i-preserved c =
     let h : c.loop-i.i < length c.args.path = omega arith in
     let k : c.loop-i.n < length c.loop-i.kept = omega (arith, c.loop-i.invariant) in
     elim c.if-not-same.branch [
-      then-not-same q ↦ rw (q.kept-is, q.n-is) (
+      | then-not-same q ↦ rw (q.kept-is, q.n-is) (
         omega (arith, c.loop-i.invariant),
         omega arith,
         length-set c.loop-i.kept c.loop-i.n _ ∙ c.loop-i.invariant.2,
         other_kept c.args.log c.args.path c.loop-i.kept c.loop-i.i c.loop-i.n _ h c.loop-i.invariant.3 k (sym (id_is _ _) ∙ sym c.same.ensures ∙ q.if-not-same.true),
         rest_stays c.args.path c.loop-i.kept c.loop-i.n _ c.loop-i.invariant.4,
       )
-    | else-not-same q ↦ rw (q.kept-is, q.n-is) (
+      | else-not-same q ↦ rw (q.kept-is, q.n-is) (
         omega (arith, c.loop-i.invariant),
         omega arith,
         c.loop-i.invariant.2,
         own_left c.args.log c.args.path c.loop-i.kept c.loop-i.i c.loop-i.n _ h c.loop-i.invariant.3 (sym (id_is _ _) ∙ sym c.same.ensures ∙ q.if-not-same.false),
         c.loop-i.invariant.4,
-      ) ]
+      )
+    ]
 
 pub returns : goal.returns
 returns c =

@@ -18,8 +18,8 @@ write_stored-requires c = record { commits_value = c.requires.logs; commit = c.r
 
 pub returns : goal.returns
 returns c = record {
-    pushed_at = pushed_bytes c.args.volumes.now c.args.i _ _ _ _ c.requires.stands.there c.requires.has (c.pushed.ensures c.requires.pending (ap (λ (z : Volume). z.pending) (read_says c.args.volumes.now c.args.i _ c.requires.stands _ c.volume_at-v.ensures) ∙ c.requires.has) ∙ ap (λ (z : Volume). pushed_volume z c.requires.pending) (read_says c.args.volumes.now c.args.i _ c.requires.stands _ c.volume_at-v.ensures)) c.store_volume.ensures;
-    commits_after = c.write_stored.ensures.commits_after;
-    checkpoints_after = c.write_stored.ensures.checkpoints_after;
-    index_after = c.write_stored.ensures.index_after;
+  pushed_at = pushed_bytes c.args.volumes.now c.args.i _ _ _ _ c.requires.stands.there c.requires.has (c.pushed.ensures c.requires.pending (ap (λ (z : Volume). z.pending) (read_says c.args.volumes.now c.args.i _ c.requires.stands _ c.volume_at-v.ensures) ∙ c.requires.has) ∙ ap (λ (z : Volume). pushed_volume z c.requires.pending) (read_says c.args.volumes.now c.args.i _ c.requires.stands _ c.volume_at-v.ensures)) c.store_volume.ensures;
+  commits_after = c.write_stored.ensures.commits_after;
+  checkpoints_after = c.write_stored.ensures.checkpoints_after;
+  index_after = c.write_stored.ensures.index_after;
 }

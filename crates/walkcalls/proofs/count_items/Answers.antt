@@ -18,27 +18,27 @@ pub returns-in_default : goal.returns-in_default
 returns-in_default c =
     let l = c.loop-n in
     let g = c.next_gift-step in
-    let z = step_none c.args.commits.now (places_in c.args.path.runs) c.requires.0 c.requires.1 c.args.count.0 l.k g.result g.ensures.0 c.in_default.is in
+    let z = step_none c.args.commits.now (places_in c.args.path.runs) c.requires.0 c.requires.1 c.args.count.0 l.k g.result g.ensures.value c.in_default.is in
     omega (arith, l.invariant.0, ap length z)
 
 pub overflow_add-n : goal.overflow_add-n
 overflow_add-n c =
     let l = c.loop-n in
     let g = c.next_gift-step in
-    let s = step_found c.args.commits.now (places_in c.args.path.runs) c.requires.0 c.requires.1 c.args.count.0 l.k g.result g.ensures.0 c.in-At.field-0 c.in-At.is in
+    let s = step_found c.args.commits.now (places_in c.args.path.runs) c.requires.0 c.requires.1 c.args.count.0 l.k g.result g.ensures.value c.in-At.field-0 c.in-At.is in
     omega (arith, s.later, s.few, l.invariant.1, c.requires.1.few)
 
 pub loop-n-smaller : goal.loop-n-smaller
 loop-n-smaller c =
     let l = c.loop-n in
     let g = c.next_gift-step in
-    let s = step_found c.args.commits.now (places_in c.args.path.runs) c.requires.0 c.requires.1 c.args.count.0 l.k g.result g.ensures.0 c.in-At.field-0 c.in-At.is in
+    let s = step_found c.args.commits.now (places_in c.args.path.runs) c.requires.0 c.requires.1 c.args.count.0 l.k g.result g.ensures.value c.in-At.field-0 c.in-At.is in
     omega (arith, s.later, s.few)
 
 pub loop-n-preserved : goal.loop-n-preserved
 loop-n-preserved c =
     let l = c.loop-n in
     let g = c.next_gift-step in
-    let s = step_found c.args.commits.now (places_in c.args.path.runs) c.requires.0 c.requires.1 c.args.count.0 l.k g.result g.ensures.0 c.in-At.field-0 c.in-At.is in
+    let s = step_found c.args.commits.now (places_in c.args.path.runs) c.requires.0 c.requires.1 c.args.count.0 l.k g.result g.ensures.value c.in-At.field-0 c.in-At.is in
     let m = ap length s.items in
-    (omega (arith, l.invariant.0), omega (arith, s.later, l.invariant.1), s.few, (g.ensures.1.1, search rules))
+    (omega (arith, l.invariant.0), omega (arith, s.later, l.invariant.1), s.few, (g.ensures.known_2, search rules))

@@ -30,15 +30,15 @@ shape_of-list-in_default c =
 pub returns-in_default : goal.returns-in_default
 returns-in_default c = let l = c.loop-i in
     let g = c.next_gift-step in
-    let z = step_none c.args.commits.now (places_in c.args.path.runs) c.requires.commits_value.0 c.requires.commits_value.1 c.args.count.0 l.k g.result g.ensures.0 c.in_default.is in
+    let z = step_none c.args.commits.now (places_in c.args.path.runs) c.requires.commits_value.0 c.requires.commits_value.1 c.args.count.0 l.k g.result g.ensures.value c.in_default.is in
     let m = put_number item_bytes 1003 c.args.list.now (items_from c.args.commits.now c.args.count.0 (places_in c.args.path.runs) 0) l.n l.list _ l.invariant.0 z in record { value = (m, omega (arith, m, items_few c.args.commits.now (places_in c.args.path.runs) c.args.count.0, c.requires.commits_value.1.few)); list_after = put_all item_bytes 1003 c.args.list.now (items_from c.args.commits.now c.args.count.0 (places_in c.args.path.runs) 0) l.n l.list _ l.invariant.0 z }
 
 pub overflow_mul-n : goal.overflow_mul-n
 overflow_mul-n c =
     let l = c.loop-i in
     let g = c.next_gift-step in
-    let s = step_found c.args.commits.now (places_in c.args.path.runs) c.requires.commits_value.0 c.requires.commits_value.1 c.args.count.0 l.k g.result g.ensures.0 c.in-At.i c.in-At.is in
-    let e = g.ensures.1.0 c.in-At.i c.in-At.is in
+    let s = step_found c.args.commits.now (places_in c.args.path.runs) c.requires.commits_value.0 c.requires.commits_value.1 c.args.count.0 l.k g.result g.ensures.value c.in-At.i c.in-At.is in
+    let e = g.ensures.gift_in c.in-At.i c.in-At.is in
     let x = item_at c.args.commits.now c.in-At.i (step_from c.args.commits.now c.args.count.0 (places_in c.args.path.runs) l.k).1 in
     let rest = items_from c.args.commits.now c.args.count.0 (places_in c.args.path.runs) g.result.next in
     let p = subst (Putting item_bytes 1003 c.args.list.now (items_from c.args.commits.now c.args.count.0 (places_in c.args.path.runs) 0) l.n l.list) s.items l.invariant.0 in
@@ -47,8 +47,8 @@ overflow_mul-n c =
 pub put_item-requires : goal.put_item-requires
 put_item-requires c = let l = c.loop-i in
     let g = c.next_gift-step in
-    let s = step_found c.args.commits.now (places_in c.args.path.runs) c.requires.commits_value.0 c.requires.commits_value.1 c.args.count.0 l.k g.result g.ensures.0 c.in-At.i c.in-At.is in
-    let e = g.ensures.1.0 c.in-At.i c.in-At.is in
+    let s = step_found c.args.commits.now (places_in c.args.path.runs) c.requires.commits_value.0 c.requires.commits_value.1 c.args.count.0 l.k g.result g.ensures.value c.in-At.i c.in-At.is in
+    let e = g.ensures.gift_in c.in-At.i c.in-At.is in
     let x = item_at c.args.commits.now c.in-At.i (step_from c.args.commits.now c.args.count.0 (places_in c.args.path.runs) l.k).1 in
     let rest = items_from c.args.commits.now c.args.count.0 (places_in c.args.path.runs) g.result.next in
     let p = subst (Putting item_bytes 1003 c.args.list.now (items_from c.args.commits.now c.args.count.0 (places_in c.args.path.runs) 0) l.n l.list) s.items l.invariant.0 in
@@ -58,24 +58,24 @@ pub overflow_add-n : goal.overflow_add-n
 overflow_add-n c =
     let l = c.loop-i in
     let g = c.next_gift-step in
-    let s = step_found c.args.commits.now (places_in c.args.path.runs) c.requires.commits_value.0 c.requires.commits_value.1 c.args.count.0 l.k g.result g.ensures.0 c.in-At.i c.in-At.is in
+    let s = step_found c.args.commits.now (places_in c.args.path.runs) c.requires.commits_value.0 c.requires.commits_value.1 c.args.count.0 l.k g.result g.ensures.value c.in-At.i c.in-At.is in
     omega (arith, s.later, s.few, l.invariant.1, c.requires.commits_value.1.few)
 
 pub loop-i-smaller : goal.loop-i-smaller
 loop-i-smaller c =
     let l = c.loop-i in
     let g = c.next_gift-step in
-    let s = step_found c.args.commits.now (places_in c.args.path.runs) c.requires.commits_value.0 c.requires.commits_value.1 c.args.count.0 l.k g.result g.ensures.0 c.in-At.i c.in-At.is in
+    let s = step_found c.args.commits.now (places_in c.args.path.runs) c.requires.commits_value.0 c.requires.commits_value.1 c.args.count.0 l.k g.result g.ensures.value c.in-At.i c.in-At.is in
     omega (arith, s.later, s.few)
 
 pub loop-i-preserved : goal.loop-i-preserved
 loop-i-preserved c =
     let l = c.loop-i in
     let g = c.next_gift-step in
-    let s = step_found c.args.commits.now (places_in c.args.path.runs) c.requires.commits_value.0 c.requires.commits_value.1 c.args.count.0 l.k g.result g.ensures.0 c.in-At.i c.in-At.is in
-    let e = g.ensures.1.0 c.in-At.i c.in-At.is in
+    let s = step_found c.args.commits.now (places_in c.args.path.runs) c.requires.commits_value.0 c.requires.commits_value.1 c.args.count.0 l.k g.result g.ensures.value c.in-At.i c.in-At.is in
+    let e = g.ensures.gift_in c.in-At.i c.in-At.is in
     let x = item_at c.args.commits.now c.in-At.i (step_from c.args.commits.now c.args.count.0 (places_in c.args.path.runs) l.k).1 in
     let rest = items_from c.args.commits.now c.args.count.0 (places_in c.args.path.runs) g.result.next in
     let p = subst (Putting item_bytes 1003 c.args.list.now (items_from c.args.commits.now c.args.count.0 (places_in c.args.path.runs) 0) l.n l.list) s.items l.invariant.0 in
     let long = row_long c.args.commits.now c.requires.commits_value.0 c.in-At.i s.below s.has (step_from c.args.commits.now c.args.count.0 (places_in c.args.path.runs) l.k).1 s.normal in
-    (put_next item_bytes 1003 c.args.list.now (items_from c.args.commits.now c.args.count.0 (places_in c.args.path.runs) 0) l.n l.list x rest p c.requires.runs_in_bounds _ long (c.put_item.ensures ∙ ap (λ (w : Pages). put (l.n * 1003) (item_bytes.spell (item_at c.args.commits.now c.in-At.i w)) l.list) e), omega (arith, s.later, l.invariant.1), s.few, (g.ensures.1.1, search rules))
+    (put_next item_bytes 1003 c.args.list.now (items_from c.args.commits.now c.args.count.0 (places_in c.args.path.runs) 0) l.n l.list x rest p c.requires.runs_in_bounds _ long (c.put_item.ensures ∙ ap (λ (w : Pages). put (l.n * 1003) (item_bytes.spell (item_at c.args.commits.now c.in-At.i w)) l.list) e), omega (arith, s.later, l.invariant.1), s.few, (g.ensures.known_2, search rules))

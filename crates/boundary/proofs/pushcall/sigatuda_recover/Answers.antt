@@ -5,9 +5,9 @@ use Rattle.boundary.proofs.pushcall.sigatuda_recover.Goals as goal
 
 pub returns : goal.returns
 returns c = record {
-    value = c.numbered.ensures ∙ ap numbered_reply c.recover.ensures.value;
-    volumes_after = c.recover.ensures.volumes_after;
-    commits_after = c.recover.ensures.commits_after;
-    checkpoints_after = c.recover.ensures.checkpoints_after;
-    index_after = c.recover.ensures.index_after;
+  value = c.numbered.ensures ∙ ap numbered_reply c.recover.ensures.value;
+  volumes_after = c.recover.ensures.volumes_after;
+  commits_after = c.recover.ensures.commits_after;
+  checkpoints_after = c.recover.ensures.checkpoints_after;
+  index_after = c.recover.ensures.index_after;
 }

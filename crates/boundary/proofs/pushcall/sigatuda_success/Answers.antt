@@ -5,9 +5,9 @@ use Rattle.boundary.proofs.pushcall.sigatuda_success.Goals as goal
 
 pub returns : goal.returns
 returns c = record {
-    value = c.numbered.ensures ∙ ap numbered_reply c.success.ensures.value;
-    volumes_after = c.success.ensures.volumes_after;
-    commits_after = c.success.ensures.commits_after;
-    checkpoints_after = c.success.ensures.checkpoints_after;
-    index_after = c.success.ensures.index_after;
+  value = c.numbered.ensures ∙ ap numbered_reply c.success.ensures.value;
+  volumes_after = c.success.ensures.volumes_after;
+  commits_after = c.success.ensures.commits_after;
+  checkpoints_after = c.success.ensures.checkpoints_after;
+  index_after = c.success.ensures.index_after;
 }

@@ -14,17 +14,16 @@ use Rattle.pageset.proofs.sets.cut.Goals as goal
 pub loop-i-init : goal.loop-i-init
 loop-i-init c =
     let left_of : Normal c.args.a = normal_fact c.args.a c.requires.a_value in
-    let right_of : Normal c.args.b = normal_fact c.args.b c.requires.b_value in
-    (
-  (left_of).tidy.short,
-  (right_of).tidy.short,
-  omega arith,
-  omega arith,
-  omega arith,
-  omega arith,
-  merge_start bit_and _ _ (left_of) (right_of),
-  merge_start and_not _ _ (left_of) (right_of),
-)
+    let right_of : Normal c.args.b = normal_fact c.args.b c.requires.b_value in (
+      (left_of).tidy.short,
+      (right_of).tidy.short,
+      omega arith,
+      omega arith,
+      omega arith,
+      omega arith,
+      merge_start bit_and _ _ (left_of) (right_of),
+      merge_start and_not _ _ (left_of) (right_of),
+    )
 
 pub offset_bounds-aw-i : goal.offset_bounds-aw-i
 offset_bounds-aw-i c = omega arith
@@ -118,8 +117,7 @@ loop-i-preserved c =
 pub returns : goal.returns
 returns c =
     let left_of : Normal c.args.a = normal_fact c.args.a c.requires.a_value in
-    let right_of : Normal c.args.b = normal_fact c.args.b c.requires.b_value in
-    (
+    let right_of : Normal c.args.b = normal_fact c.args.b c.requires.b_value in (
       refl,
       and_set c.args.a c.args.b (left_of) (right_of) c.loop-i.i c.loop-i.k c.loop-i.nc c.loop-i.cs c.loop-i.invariant.6 c.loop-i-test.false,
       not_set c.args.a c.args.b (left_of) (right_of) c.loop-i.i c.loop-i.k c.loop-i.nl c.loop-i.ls c.loop-i.invariant.7 c.loop-i-test.false,
