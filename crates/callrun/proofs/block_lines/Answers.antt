@@ -3,10 +3,10 @@ use Rattle.std.proofs.Common.{◌-◌, arith}
 use Rattle.callrun.proofs.block_lines.Goals as goal
 
 pub slice_bounds-keep-count : goal.slice_bounds-keep-count
-slice_bounds-keep-count c = omega (arith, c.piece_end-end.ensures.0, c.piece_end-end.ensures.1)
+slice_bounds-keep-count g c = omega (arith, c.piece_end-end.ensures.0, c.piece_end-end.ensures.1)
 
 pub loop-at-smaller-then-end-block : goal.loop-at-smaller-then-end-block
-loop-at-smaller-then-end-block c = omega (arith, c.piece_end-end.ensures.0, c.piece_end-end.ensures.1, c.loop-at-test.true)
+loop-at-smaller-then-end-block g c = omega (arith, c.piece_end-end.ensures.0, c.piece_end-end.ensures.1, c.loop-at-test.true)
 
 pub loop-at-smaller : goal.loop-at-smaller
-loop-at-smaller c = omega (arith, c.piece_end-end.ensures.0, c.piece_end-end.ensures.1, c.loop-at-test.true, c.if-end-block.false)
+loop-at-smaller g c = omega (arith, c.piece_end-end.ensures.0, c.piece_end-end.ensures.1, c.loop-at-test.true, c.if-end-block.false)

@@ -4,7 +4,7 @@ use Rattle.callrun.proofs.Short.{printed_short}
 use Rattle.callrun.proofs.line_ends.Goals as goal
 
 pub overflow_add-result : goal.overflow_add-result
-overflow_add-result c = omega (arith, (printed_short _ _ _ _ _ _ _ c.step_printed-n.ensures), c.room-at.ensures)
+overflow_add-result g c = omega (arith, (printed_short _ _ _ _ _ _ _ c.step_printed-n.ensures), c.in_ok-at.ensures)
 
 pub returns : goal.returns
-returns c = omega (arith, (printed_short _ _ _ _ _ _ _ c.step_printed-n.ensures), c.room-at.ensures)
+returns g c = omega (arith, (printed_short _ _ _ _ _ _ _ c.step_printed-n.ensures), c.in_ok-at.ensures)
