@@ -7,5 +7,5 @@ use Rattle.placerefusals.proofs.logs.changes.Goals as goal
 
 pub returns : goal.returns
 returns c = let g = c.args in
-    let whole = maybe_two (λ (m : ℕ × ℕ). m) _ _ _ _ (changes_rule (flagged g.has_base g.base) (flagged g.has-head g.head)) _ c.sigatuda_changes.ensures in
+    let whole = maybe_two (λ (m : ℕ × ℕ). m) _ _ _ _ (changes_rule (flagged g.has_base g.base) (flagged g.has_head g.head)) _ c.sigatuda_changes.ensures in
     record { as_found = whole.0; as_found_2 = whole.1 }
