@@ -1,4 +1,4 @@
-// The exported C functions: each decodes its arguments, makes the call and encodes the answer. A reply is document 01's number and whether there is an
+// What the C functions of boundary_c call, under their names: each decodes its arguments, makes the call and encodes the answer. A reply is document 01's number and whether there is an
 // answer; what is lent for the answer is written only then.
 #![tactic(auto)]
 

@@ -90,7 +90,7 @@ pub record Snapshot : Type 0 where
   pub path : List Range
   pub count : ℕ
 
--- ---- the keys of the six tables; their orders are those of the crate core
+-- ---- the keys of the six tables; their orders are those of the crate basics
 
 -- the key of commits and checkpoints
 abbrev pub LogLsn : Type 0

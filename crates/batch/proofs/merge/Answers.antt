@@ -19,6 +19,7 @@ count-count-requires c =
 
 pub loop-j-init : goal.loop-j-init
 loop-j-init c =
+    -- the records of the batch, and what is required of them
     let items : List (List ℕ) = runs c.args.n c.args.stride 0 c.args.batch.now in
     let ready : Ready c.args.stride c.args.klen c.args.c (items) c.args.t.now = let a = c.args in
     let p = c.requires in
@@ -33,6 +34,7 @@ overflow_sub-j c = omega arith
 
 pub overflow_mul-from : goal.overflow_mul-from
 overflow_mul-from c =
+    -- the next record down is within the batch
     let room : let a = c.args in (c.loop-j.j - 1) * a.stride + a.stride ≤ length a.batch.now = let l = c.loop-j in
     item_in c.args.stride c.args.n c.args.batch.now c.requires.stride_nonzero.2 l.j c.loop-j-test.true l.invariant.0 in
     omega (arith, room)

@@ -16,6 +16,7 @@ loop-i-init c =
 
 pub overflow_add-to : goal.overflow_add-to
 overflow_add-to c =
+    -- the next record is within the batch
     let room : c.loop-i.from + c.args.stride ≤ length c.args.batch.now = let l = c.loop-i in
     item_room c.args.stride c.args.n l.i l.from c.args.batch.now c.loop-i-test.true c.requires.stride_nonzero.2 l.invariant.1 in
     omega (arith, room)

@@ -11,6 +11,7 @@ count-n-requires c = omega (arith, c.requires.2)
 
 pub overflow_mul-i : goal.overflow_mul-i
 overflow_mul-i c =
+    -- where the move begins, and that it ends within t
     let sized : let a = c.args in (a.i * a.stride + (a.j - a.i) * a.stride ≡ a.j * a.stride) × (a.j * a.stride + (c.count-n.result - a.j) * a.stride + 2 ≤ length a.t.now) = let a = c.args in
     run_size a.stride a.t.now a.i a.j c.requires.0 c.requires.1 c.requires.2 c.count-n.result c.count-n.ensures.0 in
     omega (arith, sized)

@@ -49,9 +49,11 @@ pub merge_next-left-requires : goal.merge_next-left-requires
 merge_next-left-requires c =
     let long : length c.args.log ≡ 16 = search rules in
     let row_of : (row : List ℕ) → row ≡ log_page_lsn_bytes.spell (c.args.log, (0, c.args.lsn.0)) → length row ≡ 29 = λ row e. ap length (e ∙ key_row c.args.log c.args.lsn.0 0) ∙ row_long c.args.log (long) c.args.lsn.0 0 in
+    -- what is required of the entries
     let ready : (row : List ℕ) → row ≡ log_page_lsn_bytes.spell (c.args.log, (0, c.args.lsn.0)) → Ready 29 29 c.args.fresh (page_rows row (pages_left c.args.set.windows c.args.set.len zero_window)) c.args.t.now = λ row e. let a = c.args in
     let p = c.requires in
     entering_ready a.log (long) a.lsn.0 row e a.set p.set_value a.fresh a.t.now p.t_value p.fresh_value p.t_value_2 in
+    -- the step of a turn: its page is the last of those that are left
     let stepped : let ws = c.args.set.windows in let l = c.loop-n in let r = c.next_down-step.result in (pages_left ws l.i l.w ≡ pages_left ws r.windows r.rest ++ r.page ∷ []) × Walking c.args.set r.windows r.rest (l.n - 1) = let l = c.loop-n in
     let d = c.next_down-step in
     step_done c.args.set c.requires.set_value l.i l.w l.n l.invariant.1 c.loop-n-test.true c.last_place.result c.last_place.ensures d.result.page d.result.windows d.result.rest d.ensures in

@@ -15,6 +15,7 @@ loop-i-init c = (search rules, no_bytes c.args.a.now c.args.b.now c.args.at c.ar
 
 pub returns-then-x-y : goal.returns-then-x-y
 returns-then-x-y c =
+    -- after i bytes that are the same, those up to i + 1 stand as the next byte
     let byte : let a = c.args in let i = c.loop-i.i in lex (part a.at (i + 1) a.a.now) (part a.bt (i + 1) a.b.now) ≡ order c.load8-x.result c.load8-y.result = let a = c.args in
     let p : AreBytes a.a.now = λ j. omega (arith, c.type_inv.a j) in
     let q : AreBytes a.b.now = λ j. omega (arith, c.type_inv.b j) in

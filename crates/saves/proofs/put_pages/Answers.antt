@@ -20,6 +20,7 @@ count-count-requires c = well_two 21 21 c.args.t.now (formed_well presence c.arg
 pub move_up-requires : goal.move_up-requires
 move_up-requires c =
     let long : length c.args.sid ≡ 16 = search rules in
+    -- the bytes reach as far as the records after
     let room : (count_of c.args.t.now + size (shown c.args.set) ≤ 65535) × (2 + (count_of c.args.t.now + size (shown c.args.set)) * 21 ≤ length c.args.t.now) = pages_room c.args.sid (long) c.args.t.now c.requires.t_value.0 c.requires.t_value_2 c.args.set c.requires.t_value.1 c.requires.t_value_3 in
     omega (arith, (room).1, counted c.args.set c.requires.t_value.1 _ c.cardinality-n.ensures, c.from_key-i.ensures.1, c.count-count.ensures.0)
 

@@ -30,6 +30,7 @@ returns-then-not-commits_formed c = let whole = unchanged volume_bytes c.args.vo
 
 pub returns-then-not-both_count : goal.returns-then-not-both_count
 returns-then-not-both_count c =
+    -- the pending commit that was asked for, and that it is in form
     let asked : Pending = record { local = c.args.local.0; commit = c.args.commit.0; hash = c.args.hash } in
     let whole = unchanged volume_bytes c.args.volumes.now _ 1 (prepare_zero c.args.volumes.now c.args.commits.now c.args.vid (asked) (sym c.volumes_formed.ensures ∙ c.if-not-volumes_formed.false) (sym c.commits_formed.ensures ∙ c.if-not-commits_formed.false) (sym c.both_count.ensures ∙ c.if-not-both_count.true)) in
     record { value = whole.0; volumes_after = whole.1 }

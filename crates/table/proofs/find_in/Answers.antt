@@ -13,6 +13,7 @@ returns-then-i-n c =
 
 pub overflow_mul-i : goal.overflow_mul-i
 overflow_mul-i c =
+    -- not at the end: a record's place
     let inside : c.seek_in-i.result < c.args.n = omega (arith, c.seek_in-i.ensures.1, c.if-i-n.false) in
     let room : let a = c.args in c.seek_in-i.result * a.stride + a.stride ≤ a.n * a.stride = rows_lt c.args.stride (inside) in
     omega (arith, room)

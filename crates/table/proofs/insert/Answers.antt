@@ -14,6 +14,7 @@ count-n-requires c =
 
 pub overflow_mul-at : goal.overflow_mul-at
 overflow_mul-at c =
+    -- what moves ends within t
     let sized : let a = c.args in 2 + a.i * a.stride + a.stride + (c.count-n.result - a.i) * a.stride ≤ length a.t.now = let a = c.args in
     insert_size a.stride a.t.now a.i c.requires.0 c.count-n.result c.count-n.ensures.0 c.requires.1 c.requires.2 in
     omega (arith, sized)

@@ -21,6 +21,7 @@ overflow_add-middle c = omega arith
 
 pub overflow_mul-middle : goal.overflow_mul-middle
 overflow_mul-middle c =
+    -- the middle is a record's place
     let middle : ℕ = c.loop-low.low + (c.loop-low.high - c.loop-low.low) / 2 in
     let room : let a = c.args in middle * a.stride + a.stride ≤ a.n * a.stride = rows_lt c.args.stride (omega arith) in
     omega (arith, room)

@@ -21,6 +21,7 @@ room_for_tag-requires c = ((sym c.tags_formed.ensures ∙ c.if-not-tags_formed.f
 
 pub returns-then-not-room_for_tag : goal.returns-then-not-room_for_tag
 returns-then-not-room_for_tag c =
+    -- the volume's identifier is in form
     let vid_form : id_form c.args.vid ≡ true = id_form_lem c.args.vid (search rules) (λ j. let f : Fits w8 (get_or c.args.vid j 0) = search rules in f.fits) in
     let whole = told_unchanged tag_bytes (λ x. tagged_answer (earlier x)) (λ p. p.1) c.args.tags.now _ 19 _ (replace_full c.args.tags.now c.args.name.now c.args.vid (sym c.tags_formed.ensures ∙ c.if-not-tags_formed.false) (sym c.is_name.ensures ∙ c.if-not-is_name.false) (sym (c.room_for_tag.ensures c.args.vid (vid_form)) ∙ c.if-not-room_for_tag.true)) c.no_volume-then-not-room_for_tag.ensures in
     record { value = whole.0; tags_after = whole.1 }

@@ -13,6 +13,7 @@ use Rattle.tags.proofs.put_tag.Goals as goal
 
 pub put-requires : goal.put-requires
 put-requires c =
+    -- the tag is in form
     let good : AreBytes c.args.name.now → tag_form (tag_of (c.args.name.now, c.args.vid)) ≡ true = λ b. tag_good c.args.name.now c.args.vid c.requires.t_value.1 b (search rules) (λ j. let f : Fits w8 (get_or c.args.vid j 0) = search rules in f.fits) in
     let t = c.args.t.now in record { stride_nonzero = (omega arith, omega arith, search rules); t_value = formed_well tags t c.requires.t_value.0; t_value_2 = ap (λ (r : List ℕ). fits 50 (put 34 r (recs 50 t)) t) c.tag_row-row.ensures ∙ put_fits tags t c.requires.t_value.0 (tag_of (c.args.name.now, c.args.vid)) (good (λ j. (c.type_inv.name j).fits)) ∙ c.requires.t_value_2 }
 

@@ -6,6 +6,7 @@ use Rattle.volumebytes.proofs.volume_write.Goals as goal
 
 pub returns : goal.returns
 returns c =
+    -- identifiers are 16 bytes, a hash is 32
     let long : let v = c.args.v in (length v.vid ≡ 16) × (length v.local ≡ 16) × (length v.remote ≡ 16) × (length v.pending_hash ≡ 32) = (search rules, search rules, search rules, search rules) in
     let v = c.args.v in
     let n = long in

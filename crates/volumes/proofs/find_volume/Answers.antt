@@ -12,5 +12,6 @@ find-requires c = record { stride_nonzero = (omega arith, omega arith, omega ari
 
 pub returns : goal.returns
 returns c =
+    -- an identifier is 16 bytes
     let long : length c.args.vid ≡ 16 = search rules in
     spot_found volumes c.args.t.now c.requires (0 ∷ c.args.vid) c.args.vid (volume_key_lem c.args.vid (long)) _ (c.find.ensures ∙ ap (λ (k : List ℕ). spot 17 k (recs 117 c.args.t.now)) c.volume_key-key.ensures)

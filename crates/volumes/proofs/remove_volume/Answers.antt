@@ -10,6 +10,7 @@ use Rattle.volumes.proofs.remove_volume.Goals as goal
 
 pub returns-in_default : goal.returns-in_default
 returns-in_default c =
+    -- an identifier is 16 bytes
     let long : length c.args.vid ≡ 16 = search rules in
     gap_kept volumes c.args.t.now c.requires (0 ∷ c.args.vid) c.args.vid (volume_key_lem c.args.vid (long)) (λ j. (c.slice_known-1.given j).fits) _ (sym c.find_volume.ensures.place ∙ c.in_default.is)
 

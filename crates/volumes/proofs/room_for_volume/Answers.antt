@@ -14,6 +14,7 @@ room_for-requires c =
 
 pub returns-in-At : goal.returns-in-At
 returns-in-At c =
+    -- an identifier is 16 bytes
     let long : length c.args.v.vid ≡ 16 = search rules in
     sym (over_fits volumes c.args.t.now c.requires.0 (volume_says c.args.v) c.requires.1 (0 ∷ c.args.v.vid) (volume_key_lem c.args.v.vid (long)) _ (sym c.find_volume.ensures.place ∙ c.in-At.is))
 

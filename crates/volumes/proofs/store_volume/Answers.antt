@@ -16,6 +16,7 @@ overwrite-requires c =
 
 pub returns : goal.returns
 returns c =
+    -- an identifier is 16 bytes
     let long : length c.args.v.vid ≡ 16 = search rules in
     c.overwrite.ensures
     ∙ ap (λ (r : List ℕ). laid (set (recs 117 c.args.t.now) c.args.i r) c.args.t.now) c.volume_row-row.ensures

@@ -4,6 +4,7 @@ use Rattle.writecalls.proofs.write_commit.Goals as goal
 
 pub returns-then-number-ne0 : goal.returns-then-number-ne0
 returns-then-number-ne0 c =
+    -- a refusal: the number, and all bytes as lent
     let refusal : let a = c.args in Left a.commits.now a.checkpoints.now a.index.now a.commits.now a.checkpoints.now a.index.now c.write_plan-plan.result.number (answer a.commits.now a.checkpoints.now a.index.now a.c.now) = let a = c.args in
     let p = c.write_plan-plan in
     unchanged a.commits.now a.checkpoints.now a.index.now p.result.number _ (number_is a.commits.now a.checkpoints.now a.index.now a.c.now p.result p.ensures) c.if-number-ne0.true in
@@ -12,6 +13,7 @@ returns-then-number-ne0 c =
 
 pub write_fresh-requires : goal.write_fresh-requires
 write_fresh-requires c =
+    -- under 0 all checks have passed
     let all_passed : let a = c.args in Passed a.commits.now a.checkpoints.now a.index.now a.c.now = let a = c.args in
     let p = c.write_plan-plan in
     plan_passed a.commits.now a.checkpoints.now a.index.now a.c.now p.result p.ensures c.if-number-ne0.false in

@@ -9,6 +9,7 @@ use Rattle.keeping.proofs.copycall.volume_from_snapshot.Goals as goal
 
 pub returns : goal.returns
 returns c =
+    -- what the types of the identifiers ensure
     let vid_typed : id_form c.args.vid ≡ true = id_form_lem c.args.vid (search rules) (λ j. let f : Fits w8 (get_or c.args.vid j 0) = search rules in f.fits) in
     let local_typed : id_form c.args.local ≡ true = id_form_lem c.args.local (search rules) (λ j. let f : Fits w8 (get_or c.args.local j 0) = search rules in f.fits) in
     let remote_typed : id_form c.args.remote ≡ true = id_form_lem c.args.remote (search rules) (λ j. let f : Fits w8 (get_or c.args.remote j 0) = search rules in f.fits) in

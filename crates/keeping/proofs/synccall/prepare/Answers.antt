@@ -8,6 +8,7 @@ use Rattle.keeping.proofs.synccall.prepare.Goals as goal
 
 pub returns : goal.returns
 returns c =
+    -- the pending commit that is asked for
     let asked : Pending = record { local = c.args.local; commit = c.args.commit; hash = c.args.hash } in
     let types : typed (preparing c.args.vid.now (asked)) ≡ true = prepare_typed c.args.vid.now (asked) (omega (arith, c.ranges.local)) (omega (arith, c.ranges.commit)) (search rules) (λ j. let f : Fits w8 (get_or c.args.hash j 0) = search rules in f.fits) in
     let g = c.args in

@@ -7,6 +7,7 @@ use Rattle.keeping.proofs.tagcall.tag_replace.Goals as goal
 
 pub returns : goal.returns
 returns c =
+    -- the identifier is 16 bytes
     let long : length c.args.vid ≡ 16 = search rules in
     let bytes : AreBytes c.args.vid = λ j. let f : Fits w8 (get_or c.args.vid j 0) = search rules in f.fits in
     let g = c.args in

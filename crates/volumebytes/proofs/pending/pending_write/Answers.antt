@@ -17,6 +17,7 @@ returns-in_default c =
 
 pub returns : goal.returns
 returns c =
+    -- a hash is 32 bytes
     let long : length c.args.hash ≡ 32 = search rules in
     let t = c.args in
     pending_stored t.at t.s.now _ c.store8.ensures _ _ _ (record { local = _; commit = _; hash = t.hash }) c.requires (long) c.store64.ensures c.store64-2.ensures c.store_hash.ensures
