@@ -1,11 +1,10 @@
 -- A snapshot that is an argument in bytes. 1 and 2 look at the ranges that it spells, at most 8; 3 asks its size and its form. Of a slice of another length nothing else is looked at.
-use Rattle.std.specs.Prelude.{ℕ, Bool, cond, ◌&&◌, List, [], length, ◌==◌}
+use Rattle.std.specs.Prelude.{ℕ, Bool, cond, ◌&&◌, List, [], length, ◌==◌, Option as Maybe, Some, None}
 use Rattle.std.proofs.Math.Option.{Option, none, some}
+use Rattle.basics.specs.declared.lsn.Lsn.{Lsn}
 use Rattle.basics.specs.Answers.{Answer, done, ask, ◌>>=◌, ◌>>◌}
 use Rattle.rules.specs.Records.{Range, Snapshot}
 use Rattle.rules.specs.Arguments.{range_lsns, range_order, snapshot_lsns, snapshot_order, snapshot_append}
-use Rattle.volume.specs.declared.volume.MaybeLsn.{MaybeLsn}
-use Rattle.volume.specs.declared.volume.MaybeLsn.TheVariants as MaybeLsn
 use Rattle.volume.specs.declared.snapshot.Head.{Head}
 use Rattle.volume.specs.declared.snapshot.SnapshotAnswer.{SnapshotAnswer}
 use Rattle.volume.specs.Snapshots.{snapshot_says, head_of}
@@ -40,9 +39,9 @@ head_in b = do
   done (head_of (snapshot_in b))
 
 -- what a head by value says
-abbrev pub head_at : MaybeLsn → List ℕ → Option (List ℕ × ℕ)
-head_at MaybeLsn.Missing log = none
-head_at (MaybeLsn.At n) log = some (log, n.0)
+abbrev pub head_at : Maybe Lsn → List ℕ → Option (List ℕ × ℕ)
+head_at None log = none
+head_at (Some n) log = some (log, n.0)
 
 abbrev pub head_says : Head → Option (List ℕ × ℕ)
 head_says h = head_at h.lsn h.log

@@ -1,25 +1,36 @@
 // Answers by value as a reply and what is lent: written where there is an answer under 0, else as found.
 ghost use Rattle.std.specs.Prelude.{◌≡◌};
 ghost use Rattle.basics.specs.Answers.{done};
+ghost use Rattle.basics.specs.Refusals.{number_of};
 ghost use Rattle.basics.specs.Says.{lsn_says, maybe_lsn_says, page_says, maybe_page_says};
 ghost use Rattle.volume.specs.Volumes.{changes_says};
 ghost use Rattle.pagecalls.specs.Says.{count_says, page_says as end_says, yes_says};
-ghost use Rattle.arguments.specs.Replies.{value, value_or, yes_or_no, numbered_reply, bit as bit_of};
+ghost use Rattle.arguments.specs.Replies.{none_under, value, value_or, yes_or_no, numbered_reply, bit as bit_of};
 
 use super::Reply;
-use basics::lsn::{LsnAnswer, MaybeLsnAnswer};
-use basics::page_count::MaybePage;
-use basics::pageidx::PageAnswer;
-use pagecalls::{CountAnswer, YesAnswer};
-use volume::volume::ChangesAnswer;
+use basics::lsn::Lsn;
+use basics::page_count::PageCount;
+use basics::pageidx::PageIdx;
+use basics::refusal::Refusal;
+use volume::volume::LsnRange;
+
+// A refusal.
+pub fn refused(refusal: Refusal) -> Reply
+    ensures { result ≡ none_under (number_of refusal) }
+{
+    Reply {
+        code: refusal.number(),
+        found: 0,
+    }
+}
 
 // An LSN.
-pub fn put_lsn(a: LsnAnswer, out: &mut u64) -> Reply
+pub fn put_lsn(a: Result<Lsn, Refusal>, out: &mut u64) -> Reply
     ensures { (result, out.new) ≡ value (λ m. m) out.old (lsn_says a) }
 {
     match a {
-        LsnAnswer::Refused(code) => Reply { code, found: 0 },
-        LsnAnswer::At(n) => {
+        Err(refusal) => refused(refusal),
+        Ok(n) => {
             *out = n.0;
             Reply { code: 0, found: 1 }
         }
@@ -27,26 +38,26 @@ pub fn put_lsn(a: LsnAnswer, out: &mut u64) -> Reply
 }
 
 // An LSN or nothing.
-pub fn put_maybe_lsn(a: MaybeLsnAnswer, out: &mut u64) -> Reply
+pub fn put_maybe_lsn(a: Result<Option<Lsn>, Refusal>, out: &mut u64) -> Reply
     ensures { (result, out.new) ≡ value_or (λ m. m) out.old (maybe_lsn_says a) }
 {
     match a {
-        MaybeLsnAnswer::Refused(code) => Reply { code, found: 0 },
-        MaybeLsnAnswer::At(n) => {
+        Err(refusal) => refused(refusal),
+        Ok(Some(n)) => {
             *out = n.0;
             Reply { code: 0, found: 1 }
         }
-        MaybeLsnAnswer::Nothing => Reply { code: 0, found: 0 },
+        Ok(None) => Reply { code: 0, found: 0 },
     }
 }
 
 // A page.
-pub fn put_page(a: PageAnswer, out: &mut u32) -> Reply
+pub fn put_page(a: Result<PageIdx, Refusal>, out: &mut u32) -> Reply
     ensures { (result, out.new) ≡ value (λ m. m) out.old (page_says a) }
 {
     match a {
-        PageAnswer::Refused(code) => Reply { code, found: 0 },
-        PageAnswer::At(p) => {
+        Err(refusal) => refused(refusal),
+        Ok(p) => {
             *out = p.0;
             Reply { code: 0, found: 1 }
         }
@@ -54,43 +65,40 @@ pub fn put_page(a: PageAnswer, out: &mut u32) -> Reply
 }
 
 // A page or nothing.
-pub fn put_maybe_page(a: MaybePage, out: &mut u32) -> Reply
+pub fn put_maybe_page(a: Option<PageIdx>, out: &mut u32) -> Reply
     ensures { (result, out.new) ≡ value_or (λ m. m) out.old (done (maybe_page_says a)) }
 {
     match a {
-        MaybePage::At(p) => {
+        Some(p) => {
             *out = p.0;
             Reply { code: 0, found: 1 }
         }
-        MaybePage::Nothing => Reply { code: 0, found: 0 },
+        None => Reply { code: 0, found: 0 },
     }
 }
 
 // A range of LSNs or nothing.
-pub fn put_changes(a: ChangesAnswer, start: &mut u64, end: &mut u64) -> Reply
+pub fn put_changes(a: Result<Option<LsnRange>, Refusal>, start: &mut u64, end: &mut u64) -> Reply
     ensures { (result, (start.new, end.new)) ≡ value_or (λ m. m) (start.old, end.old) (changes_says a) }
 {
     match a {
-        ChangesAnswer::Refused(code) => Reply { code, found: 0 },
-        ChangesAnswer::Range {
-            start: first,
-            end: last,
-        } => {
-            *start = first.0;
-            *end = last.0;
+        Err(refusal) => refused(refusal),
+        Ok(Some(range)) => {
+            *start = range.start.0;
+            *end = range.end.0;
             Reply { code: 0, found: 1 }
         }
-        ChangesAnswer::Nothing => Reply { code: 0, found: 0 },
+        Ok(None) => Reply { code: 0, found: 0 },
     }
 }
 
 // A number of pages.
-pub fn put_count(a: CountAnswer, out: &mut u32) -> Reply
+pub fn put_count(a: Result<PageCount, Refusal>, out: &mut u32) -> Reply
     ensures { (result, out.new) ≡ value (λ m. m) out.old (count_says a) }
 {
     match a {
-        CountAnswer::Refused(code) => Reply { code, found: 0 },
-        CountAnswer::Count(n) => {
+        Err(refusal) => refused(refusal),
+        Ok(n) => {
             *out = n.0;
             Reply { code: 0, found: 1 }
         }
@@ -98,27 +106,27 @@ pub fn put_count(a: CountAnswer, out: &mut u32) -> Reply
 }
 
 // A set's first or last page, or nothing.
-pub fn put_end(a: pagecalls::PageAnswer, out: &mut u32) -> Reply
+pub fn put_end(a: Result<Option<PageIdx>, Refusal>, out: &mut u32) -> Reply
     ensures { (result, out.new) ≡ value_or (λ m. m) out.old (end_says a) }
 {
     match a {
-        pagecalls::PageAnswer::Refused(code) => Reply { code, found: 0 },
-        pagecalls::PageAnswer::At(p) => {
+        Err(refusal) => refused(refusal),
+        Ok(Some(p)) => {
             *out = p.0;
             Reply { code: 0, found: 1 }
         }
-        pagecalls::PageAnswer::Nothing => Reply { code: 0, found: 0 },
+        Ok(None) => Reply { code: 0, found: 0 },
     }
 }
 
 // Yes or no.
-pub fn yes_or_no(a: YesAnswer) -> Reply
+pub fn yes_or_no(a: Result<bool, Refusal>) -> Reply
     ensures { result ≡ yes_or_no (yes_says a) }
 {
     match a {
-        YesAnswer::Refused(code) => Reply { code, found: 0 },
-        YesAnswer::Yes => Reply { code: 0, found: 1 },
-        YesAnswer::No => Reply { code: 0, found: 0 },
+        Err(refusal) => refused(refusal),
+        Ok(true) => Reply { code: 0, found: 1 },
+        Ok(false) => Reply { code: 0, found: 0 },
     }
 }
 

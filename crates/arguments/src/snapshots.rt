@@ -10,7 +10,6 @@ use basics::page_count::PageCount;
 use layout::SNAPSHOT;
 use snapshotbytes::{snapshot_form, snapshot_read, snapshot_write};
 use volume::snapshot::{Head, Snapshot, SnapshotAnswer};
-use volume::volume::MaybeLsn;
 
 // The snapshot that an argument spells, of no range where its length is wrong.
 pub fn snapshot_arg(b: &[u8]) -> Snapshot
@@ -65,8 +64,8 @@ pub fn put_head(head: Head, log: &mut [u8; 16], lsn: &mut u64) -> Reply
 {
     let end = head.lsn;
     match end {
-        MaybeLsn::Missing => Reply { code: 0, found: 0 },
-        MaybeLsn::At(n) => {
+        None => Reply { code: 0, found: 0 },
+        Some(n) => {
             let id = head.log;
             *log = id;
             *lsn = n.0;

@@ -10,8 +10,8 @@ use lib.ListN.{length-take}
 use lib.Seq.{take-take}
 use Rattle.octets.specs.Bytes.{part}
 use Rattle.octets.specs.Order.{order, then_by, lex, ordering}
-use Rattle.octets.specs.declared.Order.{Order}
-use Rattle.octets.specs.declared.Order.TheVariants.{Less, Equal, Greater}
+use Rattle.std.specs.Ordering as std
+use Rattle.std.proofs.Common.{Ordering as Order, Less, Equal, Greater, nat_cmp, rules}
 use Rattle.octets.proofs.Orders.{ordering_order, order_less, order_equal, less_order, equal_order, greater_order, lex_self, lex_same, lex_greater_turned, lex_trans}
 use Rattle.octets.proofs.Places.{part_front}
 use Rattle.basics.specs.Orders.{next, up, down, bytes, both, log_lsn, log_page_lsn, sid_page}
@@ -199,3 +199,13 @@ fronts xs ys l i j m n k p q f g e =
     let a : part 0 k xs ≡ take k (take i xs) = part_front k xs ∙ sym (take-take k i xs (omega arith)) in
     let b : part 0 k ys ≡ take k (take j ys) = part_front k ys ∙ sym (take-take k j ys (omega arith)) in
     rw (a, b, ← u, ← v) (bytes_cut (take i xs) (take j ys) k (omega arith))
+
+-- std's comparison of numbers says what the library's does
+pub ordering_nat_cmp : (m n : ℕ) → ordering (nat_cmp m n) ≡ up m n
+ordering_nat_cmp m n = search rules
+
+-- and its first answer decides as the first field does
+pub ordering_of_then : (o p : Order) → ordering (std.ordering_then o p) ≡ next (ordering o) (ordering p)
+ordering_of_then Less p = refl
+ordering_of_then Equal p = refl
+ordering_of_then Greater p = refl

@@ -2,4 +2,5 @@ pub mod Answers
 pub mod Hashes
 pub mod Numbers
 pub mod Orders
+pub mod Refusals
 pub mod Says

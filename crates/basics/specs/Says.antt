@@ -1,16 +1,11 @@
 -- What each answer of the code says: document 01's number, or the value under 0; what each key of the code is; and an LSN as the code holds it.
-use Rattle.std.specs.Prelude.{ℕ, List, take}
+use Rattle.std.specs.Prelude.{ℕ, List, take, Option as Maybe, Some, None, Result, Ok, Err}
 use Rattle.std.proofs.Math.Option.{Option, none, some}
 use Rattle.basics.specs.Answers.{Answer, refused, done}
+use Rattle.basics.specs.Refusals.{number_of}
 use Rattle.basics.specs.declared.lsn.Lsn.{Lsn}
-use Rattle.basics.specs.declared.lsn.LsnAnswer.{LsnAnswer}
-use Rattle.basics.specs.declared.lsn.LsnAnswer.TheVariants as LsnAnswer
-use Rattle.basics.specs.declared.lsn.MaybeLsnAnswer.{MaybeLsnAnswer}
-use Rattle.basics.specs.declared.lsn.MaybeLsnAnswer.TheVariants as MaybeLsnAnswer
-use Rattle.basics.specs.declared.pageidx.PageAnswer.{PageAnswer}
-use Rattle.basics.specs.declared.pageidx.PageAnswer.TheVariants as PageAnswer
-use Rattle.basics.specs.declared.page_count.MaybePage.{MaybePage}
-use Rattle.basics.specs.declared.page_count.MaybePage.TheVariants as MaybePage
+use Rattle.basics.specs.declared.pageidx.PageIdx.{PageIdx}
+use Rattle.basics.specs.declared.refusal.Refusal.{Refusal}
 use Rattle.basics.specs.declared.logref.LogRef.{LogRef}
 use Rattle.basics.specs.declared.keys.PageVersion.{PageVersion}
 use Rattle.basics.specs.declared.keys.PageKey.{PageKey}
@@ -20,22 +15,22 @@ use Rattle.basics.specs.declared.keys.TagName.{TagName}
 abbrev pub lsn_laid : ℕ → Lsn
 lsn_laid n = record { 0 = n }
 
-abbrev pub lsn_says : LsnAnswer → Answer ℕ
-lsn_says (LsnAnswer.Refused n) = refused n
-lsn_says (LsnAnswer.At n) = done n.0
+abbrev pub lsn_says : Result Lsn Refusal → Answer ℕ
+lsn_says (Err r) = refused (number_of r)
+lsn_says (Ok n) = done n.0
 
-abbrev pub maybe_lsn_says : MaybeLsnAnswer → Answer (Option ℕ)
-maybe_lsn_says (MaybeLsnAnswer.Refused n) = refused n
-maybe_lsn_says (MaybeLsnAnswer.At n) = done (some n.0)
-maybe_lsn_says MaybeLsnAnswer.Nothing = done none
+abbrev pub maybe_lsn_says : Result (Maybe Lsn) Refusal → Answer (Option ℕ)
+maybe_lsn_says (Err r) = refused (number_of r)
+maybe_lsn_says (Ok None) = done none
+maybe_lsn_says (Ok (Some n)) = done (some n.0)
 
-abbrev pub page_says : PageAnswer → Answer ℕ
-page_says (PageAnswer.Refused n) = refused n
-page_says (PageAnswer.At p) = done p.0
+abbrev pub page_says : Result PageIdx Refusal → Answer ℕ
+page_says (Err r) = refused (number_of r)
+page_says (Ok p) = done p.0
 
-abbrev pub maybe_page_says : MaybePage → Option ℕ
-maybe_page_says (MaybePage.At p) = some p.0
-maybe_page_says MaybePage.Nothing = none
+abbrev pub maybe_page_says : Maybe PageIdx → Option ℕ
+maybe_page_says (Some p) = some p.0
+maybe_page_says None = none
 
 -- a commit's or a checkpoint's key: log, LSN
 abbrev pub log_ref_key : LogRef → List ℕ × ℕ

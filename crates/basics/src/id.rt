@@ -3,7 +3,7 @@ ghost use Rattle.std.specs.Prelude.{◌≡◌};
 ghost use Rattle.octets.specs.Order.{is_equal, lex, ordering};
 ghost use Rattle.basics.specs.Orders.{bytes};
 
-use octets::Order;
+use std::cmp::Ordering;
 
 pub type VolumeId = [u8; 16];
 
@@ -19,7 +19,7 @@ pub fn same(a: [u8; 16], b: [u8; 16]) -> bool
 }
 
 // How two identifiers stand.
-pub fn compare(a: [u8; 16], b: [u8; 16]) -> Order
+pub fn compare(a: [u8; 16], b: [u8; 16]) -> Ordering
     ensures { ordering result ≡ bytes a b }
 {
     octets::compare_id(a, b)

@@ -4,7 +4,7 @@ ghost use Rattle.std.specs.Prelude.{◌≡◌};
 use crate::id::LogId;
 use crate::lsn::Lsn;
 
-#[derive(Clone, Copy)]
+#[derive(Clone, Copy, Debug, PartialEq, Eq)]
 pub struct LogRef {
     pub log: LogId,
     pub lsn: Lsn,
@@ -15,6 +15,6 @@ impl LogRef {
     pub fn new(log: LogId, lsn: Lsn) -> LogRef
         ensures { (result.log ≡ log) × (result.lsn ≡ lsn) }
     {
-        LogRef { log: log, lsn: lsn }
+        LogRef { log, lsn }
     }
 }

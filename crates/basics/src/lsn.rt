@@ -3,23 +3,10 @@ ghost use Rattle.std.specs.Prelude.{◌≡◌};
 ghost use Rattle.basics.specs.Numbers.{last_lsn, next_lsn, prev_lsn, next_lsn_or_last, prev_lsn_or_first};
 ghost use Rattle.basics.specs.Says.{lsn_says, maybe_lsn_says};
 
-#[derive(Clone, Copy)]
+use crate::refusal::Refusal;
+
+#[derive(Clone, Copy, Debug, PartialEq, Eq, PartialOrd, Ord)]
 pub struct Lsn(pub u64);
-
-// An LSN, or the number of a refusal.
-#[derive(Clone, Copy)]
-pub enum LsnAnswer {
-    Refused(u32),
-    At(Lsn),
-}
-
-// An LSN or nothing, or the number of a refusal.
-#[derive(Clone, Copy)]
-pub enum MaybeLsnAnswer {
-    Refused(u32),
-    At(Lsn),
-    Nothing,
-}
 
 impl Lsn {
     // The lowest LSN.
@@ -33,62 +20,56 @@ impl Lsn {
     pub fn last() -> Lsn
         ensures { result.0 ≡ last_lsn }
     {
-        Lsn(18446744073709551615)
+        Lsn(u64::MAX)
     }
 
     // The LSN after this one: 1 for LSN 0, 18 where none is left.
-    pub fn next(self) -> LsnAnswer
+    pub fn next(self) -> Result<Lsn, Refusal>
         ensures { lsn_says result ≡ next_lsn self.0 }
     {
         let n = self.0;
         if n == 0 {
-            return LsnAnswer::Refused(1);
+            return Err(Refusal::Zero);
         }
-        if n == 18446744073709551615 {
-            return LsnAnswer::Refused(18);
+        if n == u64::MAX {
+            return Err(Refusal::NoLsnLeft);
         }
-        LsnAnswer::At(Lsn(n + 1))
+        Ok(Lsn(n + 1))
     }
 
     // The LSN before this one, or nothing before the first: 1 for LSN 0.
-    pub fn checked_prev(self) -> MaybeLsnAnswer
+    pub fn checked_prev(self) -> Result<Option<Lsn>, Refusal>
         ensures { maybe_lsn_says result ≡ prev_lsn self.0 }
     {
         let n = self.0;
         if n == 0 {
-            return MaybeLsnAnswer::Refused(1);
+            return Err(Refusal::Zero);
         }
         if n == 1 {
-            return MaybeLsnAnswer::Nothing;
+            return Ok(None);
         }
-        MaybeLsnAnswer::At(Lsn(n - 1))
+        Ok(Some(Lsn(n - 1)))
     }
 
     // The LSN after this one, and the last after itself: 1 for LSN 0.
-    pub fn saturating_next(self) -> LsnAnswer
+    pub fn saturating_next(self) -> Result<Lsn, Refusal>
         ensures { lsn_says result ≡ next_lsn_or_last self.0 }
     {
         let n = self.0;
         if n == 0 {
-            return LsnAnswer::Refused(1);
+            return Err(Refusal::Zero);
         }
-        if n == 18446744073709551615 {
-            return LsnAnswer::At(self);
-        }
-        LsnAnswer::At(Lsn(n + 1))
+        Ok(Lsn(n.saturating_add(1)))
     }
 
     // The LSN before this one, and the first before itself: 1 for LSN 0.
-    pub fn saturating_prev(self) -> LsnAnswer
+    pub fn saturating_prev(self) -> Result<Lsn, Refusal>
         ensures { lsn_says result ≡ prev_lsn_or_first self.0 }
     {
         let n = self.0;
         if n == 0 {
-            return LsnAnswer::Refused(1);
+            return Err(Refusal::Zero);
         }
-        if n == 1 {
-            return LsnAnswer::At(self);
-        }
-        LsnAnswer::At(Lsn(n - 1))
+        Ok(Lsn((n - 1).max(1)))
     }
 }

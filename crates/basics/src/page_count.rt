@@ -5,47 +5,32 @@ ghost use Rattle.basics.specs.Says.{maybe_page_says};
 
 use crate::pageidx::PageIdx;
 
-#[derive(Clone, Copy)]
+#[derive(Clone, Copy, Debug, PartialEq, Eq, PartialOrd, Ord)]
 pub struct PageCount(pub u32);
-
-// A page or nothing.
-#[derive(Clone, Copy)]
-pub enum MaybePage {
-    At(PageIdx),
-    Nothing,
-}
 
 impl PageCount {
     // One page more, and the highest count after itself.
     pub fn saturating_incr(self) -> PageCount
         ensures { result.0 ≡ next_count self.0 }
     {
-        let n = self.0;
-        if n == 4294967295 {
-            return self;
-        }
-        PageCount(n + 1)
+        PageCount(self.0.saturating_add(1))
     }
 
     // One page less, and no page after none.
     pub fn saturating_decr(self) -> PageCount
         ensures { result.0 ≡ prev_count self.0 }
     {
-        let n = self.0;
-        if n == 0 {
-            return self;
-        }
-        PageCount(n - 1)
+        PageCount(self.0.saturating_sub(1))
     }
 
     // The last of this many pages, or nothing where there is none.
-    pub fn last_pageidx(self) -> MaybePage
+    pub fn last_pageidx(self) -> Option<PageIdx>
         ensures { maybe_page_says result ≡ end_page self.0 }
     {
         let n = self.0;
         if n == 0 {
-            return MaybePage::Nothing;
+            return None;
         }
-        MaybePage::At(PageIdx(n))
+        Some(PageIdx(n))
     }
 }

@@ -3,15 +3,10 @@ ghost use Rattle.std.specs.Prelude.{◌≡◌};
 ghost use Rattle.basics.specs.Numbers.{last_page, next_page, prev_page};
 ghost use Rattle.basics.specs.Says.{page_says};
 
-#[derive(Clone, Copy)]
-pub struct PageIdx(pub u32);
+use crate::refusal::Refusal;
 
-// A page, or the number of a refusal.
-#[derive(Clone, Copy)]
-pub enum PageAnswer {
-    Refused(u32),
-    At(PageIdx),
-}
+#[derive(Clone, Copy, Debug, PartialEq, Eq, PartialOrd, Ord)]
+pub struct PageIdx(pub u32);
 
 impl PageIdx {
     // The lowest page.
@@ -25,34 +20,28 @@ impl PageIdx {
     pub fn last() -> PageIdx
         ensures { result.0 ≡ last_page }
     {
-        PageIdx(4294967295)
+        PageIdx(u32::MAX)
     }
 
     // The page after this one, and the last after itself: 1 for page 0.
-    pub fn saturating_next(self) -> PageAnswer
+    pub fn saturating_next(self) -> Result<PageIdx, Refusal>
         ensures { page_says result ≡ next_page self.0 }
     {
         let p = self.0;
         if p == 0 {
-            return PageAnswer::Refused(1);
+            return Err(Refusal::Zero);
         }
-        if p == 4294967295 {
-            return PageAnswer::At(self);
-        }
-        PageAnswer::At(PageIdx(p + 1))
+        Ok(PageIdx(p.saturating_add(1)))
     }
 
     // The page before this one, and the first before itself: 1 for page 0.
-    pub fn saturating_prev(self) -> PageAnswer
+    pub fn saturating_prev(self) -> Result<PageIdx, Refusal>
         ensures { page_says result ≡ prev_page self.0 }
     {
         let p = self.0;
         if p == 0 {
-            return PageAnswer::Refused(1);
+            return Err(Refusal::Zero);
         }
-        if p == 1 {
-            return PageAnswer::At(self);
-        }
-        PageAnswer::At(PageIdx(p - 1))
+        Ok(PageIdx((p - 1).max(1)))
     }
 }

@@ -8,11 +8,8 @@ use Prim.Native.Nat.{ℕ, zero, suc, ◌+◌, ◌-◌, ◌≤◌}
 use native.Mathlib.Omega.{arith}
 use lib.ListN.{length, take, drop, length-append, length-drop, take-append-drop}
 use lib.Seq.{length-take-le}
-use Rattle.octets.specs.declared.Order.{Order}
-use Rattle.octets.specs.declared.Order.TheVariants.{Less, Equal, Greater}
+use Rattle.std.proofs.Common.{Ordering, Less, Equal, Greater, Result, Ok, Err}
 use Rattle.table.specs.Records.{cmp, rises, spot_by, spot, place, hits, past, put_by, put}
-use Rattle.table.specs.declared.Spot.{Spot}
-use Rattle.table.specs.declared.Spot.TheVariants.{At, Gap}
 use Rattle.table.proofs.Keys.{less_turned, greater_turned, cmp_right, cmp_trans, rises_head, rises_tail, rises_cons, rises_skip, rises_take}
 use Rattle.table.proofs.Spots.{past_le}
 use Rattle.batch.specs.Batch.{put_all, lacks, fresh}
@@ -31,34 +28,34 @@ Above k y (x ∷ m) = (r : List ℕ) → cmp k r y ≡ Less → cmp k r x ≡ Le
 -- ---- the records before and after the spot of y
 
 module _ (k : ℕ) (y : List ℕ) where
-  below_step : (x : List ℕ) (l : List (List ℕ)) (o : Order) (q : Spot) → cmp k y x ≡ o → Below k (take (place q) l) y → Below k (take (place (spot_by o q)) (x ∷ l)) y
+  below_step : (x : List ℕ) (l : List (List ℕ)) (o : Ordering) (q : Result ℕ ℕ) → cmp k y x ≡ o → Below k (take (place q) l) y → Below k (take (place (spot_by o q)) (x ∷ l)) y
   below_step x l Less q e h = tt
   below_step x l Equal q e h = tt
-  below_step x l Greater (At i) e h = (greater_turned k y x e, h)
-  below_step x l Greater (Gap i) e h = (greater_turned k y x e, h)
+  below_step x l Greater (Ok i) e h = (greater_turned k y x e, h)
+  below_step x l Greater (Err i) e h = (greater_turned k y x e, h)
 
   below_spot : (l : List (List ℕ)) → Below k (take (place (spot k y l)) l) y
   below_spot [] = tt
   below_spot (x ∷ l) = below_step x l (cmp k y x) (spot k y l) refl (below_spot l)
 
-  above_step : (x : List ℕ) (l : List (List ℕ)) (o : Order) (q : Spot) → cmp k y x ≡ o → Above k y (drop (place q) l) → Above k y (drop (place (spot_by o q)) (x ∷ l))
+  above_step : (x : List ℕ) (l : List (List ℕ)) (o : Ordering) (q : Result ℕ ℕ) → cmp k y x ≡ o → Above k y (drop (place q) l) → Above k y (drop (place (spot_by o q)) (x ∷ l))
   above_step x l Less q e h = λ r g. cmp_trans k r y x g e
   above_step x l Equal q e h = λ r g. sym (cmp_right k y x e r) ∙ g
-  above_step x l Greater (At i) e h = h
-  above_step x l Greater (Gap i) e h = h
+  above_step x l Greater (Ok i) e h = h
+  above_step x l Greater (Err i) e h = h
 
   above_spot : (l : List (List ℕ)) → Above k y (drop (place (spot k y l)) l)
   above_spot [] = tt
   above_spot (x ∷ l) = above_step x l (cmp k y x) (spot k y l) refl (above_spot l)
 
-  put_step : (x : List ℕ) (l : List (List ℕ)) (o : Order) (q : Spot) → cmp k y x ≡ o → put k y (drop (place q) l) ≡ y ∷ drop (past q) l
+  put_step : (x : List ℕ) (l : List (List ℕ)) (o : Ordering) (q : Result ℕ ℕ) → cmp k y x ≡ o → put k y (drop (place q) l) ≡ y ∷ drop (past q) l
       → put k y (drop (place (spot_by o q)) (x ∷ l)) ≡ y ∷ drop (past (spot_by o q)) (x ∷ l)
   put_step x l Less q e h = rw e
   put_step x l Equal q e h = rw e
-  put_step x l Greater (At i) e h =
+  put_step x l Greater (Ok i) e h =
       let n : suc i + 1 ≡ suc (i + 1) = omega arith in
       rw n h
-  put_step x l Greater (Gap i) e h =
+  put_step x l Greater (Err i) e h =
       let n : suc i + 0 ≡ suc (i + 0) = omega arith in
       rw n h
 
@@ -72,7 +69,7 @@ put_in : (k : ℕ) (r x : List ℕ) (l m : List (List ℕ)) → cmp k r x ≡ Le
 put_in k r x [] m h = rw h
 put_in k r x (z ∷ l) m h = go (cmp k r z) (put_in k r x l m h)
   where
-    go : (o : Order) → put k r (l ++ x ∷ m) ≡ put k r l ++ x ∷ m → put_by o r z (l ++ x ∷ m) (put k r (l ++ x ∷ m)) ≡ put_by o r z l (put k r l) ++ x ∷ m
+    go : (o : Ordering) → put k r (l ++ x ∷ m) ≡ put k r l ++ x ∷ m → put_by o r z (l ++ x ∷ m) (put k r (l ++ x ∷ m)) ≡ put_by o r z l (put k r l) ++ x ∷ m
     go Less rest = refl
     go Equal rest = refl
     go Greater rest = ap (λ (q : List (List ℕ)). z ∷ q) rest
@@ -89,7 +86,7 @@ put_over : (k : ℕ) (y : List ℕ) (l m : List (List ℕ)) → Below k l y → 
 put_over k y [] m b = refl
 put_over k y (x ∷ l) m b = rw (less_turned k x y b.0, put_over k y l m b.1)
 
-below_by : (k : ℕ) (y r x : List ℕ) (l p : List (List ℕ)) (o : Order) → cmp k r y ≡ Less → Below k (x ∷ l) y → Below k p y → Below k (put_by o r x l p) y
+below_by : (k : ℕ) (y r x : List ℕ) (l p : List (List ℕ)) (o : Ordering) → cmp k r y ≡ Less → Below k (x ∷ l) y → Below k p y → Below k (put_by o r x l p) y
 below_by k y r x l p Less h b g = (h, b)
 below_by k y r x l p Equal h b g = (h, b.1)
 below_by k y r x l p Greater h b g = (b.0, g)

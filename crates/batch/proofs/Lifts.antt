@@ -1,4 +1,5 @@
 -- One step of a merge from the back: the bytes that `move_records`, `lift` and `merge_next` leave. The record and what moved are one run of bytes.
+use Rattle.std.proofs.Common.{Result, Ok, Err}
 use mathlib.Core.Path.{◌≡◌, sym, ap, ◌∙◌}
 use mathlib.Core.List.{List}
 use Prim.Native.Nat.{ℕ, ◌+◌, ◌-◌, ◌*◌, ◌≤◌, ◌<◌}
@@ -10,8 +11,6 @@ use Rattle.octets.specs.Bytes as B
 use Rattle.octets.proofs.Places as P
 use Rattle.table.specs.Records.{spot, place, hits, past}
 use Rattle.table.specs.Table.{runs}
-use Rattle.table.specs.declared.Spot.{Spot}
-use Rattle.table.specs.declared.Spot.TheVariants.{At, Gap}
 use Rattle.table.proofs.Rows.{rows_le, rows_sub, length_runs}
 use Rattle.table.proofs.Spots.{at_lt, gap_le}
 use Rattle.batch.specs.Batch.{lifted, Merged}
@@ -62,28 +61,28 @@ lift_done s q i d r t u v qi qd h e f g =
 
 -- ---- `merge_next`, by where the record stands
 
-module _ (s k i d : ℕ) (r t : List ℕ) (p : ℕ) (o : Spot) (f : o ≡ spot k r (runs i s 2 t)) where
-  pub next_at : o ≡ At p → p < i
+module _ (s k i d : ℕ) (r t : List ℕ) (p : ℕ) (o : Result ℕ ℕ) (f : o ≡ spot k r (runs i s 2 t)) where
+  pub next_at : o ≡ Ok p → p < i
   next_at e = omega (arith, at_lt k r (runs i s 2 t) p (sym f ∙ e), length_runs s i 2 t)
 
-  pub next_gap : o ≡ Gap p → 1 ≤ d + hits (spot k r (runs i s 2 t)) → (p ≤ i) × (1 ≤ d)
+  pub next_gap : o ≡ Err p → 1 ≤ d + hits (spot k r (runs i s 2 t)) → (p ≤ i) × (1 ≤ d)
   next_gap e h = (
     omega (arith, gap_le k r (runs i s 2 t) p (sym f ∙ e), length_runs s i 2 t),
     omega (arith, ap hits (sym f ∙ e)),
   )
 
-  pub next_at_done : o ≡ At p → (u : List ℕ) → u ≡ lifted s (p + 1) i d r t → Merged s k i d r t p d u
+  pub next_at_done : o ≡ Ok p → (u : List ℕ) → u ≡ lifted s (p + 1) i d r t → Merged s k i d r t p d u
   next_at_done e u g =
-      let z : spot k r (runs i s 2 t) ≡ At p = sym f ∙ e in
+      let z : spot k r (runs i s 2 t) ≡ Ok p = sym f ∙ e in
       record {
         left = sym (ap place z);
         coming = omega (arith, ap hits z);
         bytes = g ∙ ap (λ (q : ℕ). lifted s q i d r t) (sym (ap past z));
       }
 
-  pub next_gap_done : o ≡ Gap p → (u : List ℕ) → u ≡ lifted s p i d r t → Merged s k i d r t p (d - 1) u
+  pub next_gap_done : o ≡ Err p → (u : List ℕ) → u ≡ lifted s p i d r t → Merged s k i d r t p (d - 1) u
   next_gap_done e u g =
-      let z : spot k r (runs i s 2 t) ≡ Gap p = sym f ∙ e in
+      let z : spot k r (runs i s 2 t) ≡ Err p = sym f ∙ e in
       let q : p ≡ past (spot k r (runs i s 2 t)) = omega (arith, ap past z) in
       record {
         left = sym (ap place z);

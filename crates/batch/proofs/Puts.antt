@@ -6,12 +6,9 @@ use mathlib.Core.List.{List, [], ◌∷◌, ◌++◌}
 use Prim.Native.Nat.{ℕ, ◌+◌, ◌*◌, ◌≤◌}
 use native.Mathlib.Omega.{arith}
 use lib.ListN.{length, take, drop, take-append-drop}
-use Rattle.octets.specs.declared.Order.{Order}
-use Rattle.octets.specs.declared.Order.TheVariants.{Less, Equal, Greater}
+use Rattle.std.proofs.Common.{Ordering, Less, Equal, Greater, Result, Ok, Err}
 use Rattle.table.specs.Records.{cmp, rises, spot, look_by, look, put}
 use Rattle.table.specs.Table.{Each, count_of, recs, well_ordered, holds, fits}
-use Rattle.table.specs.declared.Spot.{Spot}
-use Rattle.table.specs.declared.Spot.TheVariants.{At, Gap}
 use Rattle.table.proofs.Keys.{equal_turned, equal?, less_not_equal, rises_head, rises_tail, rises_skip}
 use Rattle.table.proofs.Rows.{length_recs}
 use Rattle.table.proofs.Spots.{each_put, rises_put, look_put_same, look_put_other, look_like, look_at, look_gap, length_put_at, length_put_gap}
@@ -43,7 +40,7 @@ pub lacks_cons_other : (k : ℕ) (x r : List ℕ) (l : List (List ℕ)) → (cmp
 unfolding lacks
 lacks_cons_other k x r l n = go (cmp k x r) refl
   where
-    go : (o : Order) → cmp k x r ≡ o → gone (look_by o r (look k x l)) ≡ gone (look k x l)
+    go : (o : Ordering) → cmp k x r ≡ o → gone (look_by o r (look k x l)) ≡ gone (look k x l)
     go Less e = refl
     go Equal e = absurd (n e)
     go Greater e = refl
@@ -116,9 +113,9 @@ length_put : (k : ℕ) (r : List ℕ) (l : List (List ℕ)) → rises k l ≡ tr
 unfolding lacks
 length_put k r l h = go (spot k r l) refl
   where
-    go : (p : Spot) → spot k r l ≡ p → length (put k r l) ≡ length l + gone (look k r l)
-    go (At i) e = rw (look_at k r l i e) (length_put_at k r l i e ∙ omega arith)
-    go (Gap i) e = rw (look_gap k r l i h e) (length_put_gap k r l i e)
+    go : (p : Result ℕ ℕ) → spot k r l ≡ p → length (put k r l) ≡ length l + gone (look k r l)
+    go (Ok i) e = rw (look_at k r l i e) (length_put_at k r l i e ∙ omega arith)
+    go (Err i) e = rw (look_gap k r l i h e) (length_put_gap k r l i e)
 
 -- of a batch in two parts, those of each
 pub fresh_append : (k : ℕ) (a b l : List (List ℕ)) → fresh k (a ++ b) l ≡ fresh k a l + fresh k b l

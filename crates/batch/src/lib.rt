@@ -22,11 +22,11 @@ pub fn lacking_below(t: &[u8], stride: usize, klen: usize, held: usize, key: &[u
     ensures { (result.held ≡ place (spot klen key.now (runs held stride 2 t.now))) × (result.lacking ≡ lacks klen key.now (runs held stride 2 t.now)) × (result.lacking ≤ 1) }
 {
     match table::find_in(t, stride, klen, held, key) {
-        table::Spot::At(i) => Passed {
+        Ok(i) => Passed {
             held: i,
             lacking: 0,
         },
-        table::Spot::Gap(i) => Passed {
+        Err(i) => Passed {
             held: i,
             lacking: 1,
         },
@@ -42,20 +42,24 @@ pub fn lacking(t: &[u8], stride: usize, klen: usize, key: &[u8]) -> usize
     lacking_below(t, stride, klen, table::count(t), key).lacking
 }
 
+// Record i of a batch.
+fn record(batch: &[u8], stride: usize, i: usize) -> &[u8]
+    requires { i * stride + stride ≤ length batch.now }
+    ensures { (result.now ≡ part (i * stride) stride batch.now) × (length result.now ≡ stride) }
+{
+    let from = i * stride;
+    &batch[from..from + stride]
+}
+
 // How many of the n records of a batch have a key that is not in t; of a rising batch, its distinct new keys.
 pub fn count_fresh(t: &[u8], stride: usize, klen: usize, batch: &[u8], n: usize) -> usize
     requires stride_nonzero { (0 < stride) × (klen ≤ stride) × (n * stride ≤ length batch.now) }
     requires t_value { well_ordered stride klen t.now ≡ true }
     ensures { (result ≡ fresh klen (runs n stride 0 batch.now) (recs stride t.now)) × (result ≤ n) }
 {
-    let mut c: usize = 0;
-    let mut i: usize = 0;
-    let mut from: usize = 0;
-    while i < n {
-        let to = from + stride;
-        c += lacking(t, stride, klen, &batch[from..to]);
-        from = to;
-        i += 1;
+    let mut c = 0;
+    for i in 0..n {
+        c += lacking(t, stride, klen, record(batch, stride, i));
     }
     c
 }
@@ -72,14 +76,10 @@ fn lacking_later(
     requires { (klen ≤ stride) × (from + stride ≤ length batch.now) × (first + n * stride ≤ length batch.now) }
     ensures { (result ≡ lacks klen (part from stride batch.now) (runs n stride first batch.now)) × (result ≤ 1) }
 {
-    let mut i: usize = 0;
-    let mut at = first;
-    while i < n {
-        if octets::same(batch, from, batch, at, klen) {
+    for i in 0..n {
+        if octets::same(batch, from, batch, first + i * stride, klen) {
             return 0;
         }
-        at += stride;
-        i += 1;
     }
     1
 }
@@ -90,16 +90,12 @@ pub fn count_new(t: &[u8], stride: usize, klen: usize, batch: &[u8], n: usize) -
     requires t_value { well_ordered stride klen t.now ≡ true }
     ensures { (result ≡ news klen (runs n stride 0 batch.now) (recs stride t.now)) × (result ≤ n) }
 {
-    let mut c: usize = 0;
-    let mut i: usize = 0;
-    let mut from: usize = 0;
-    while i < n {
-        let to = from + stride;
-        let a = lacking(t, stride, klen, &batch[from..to]);
-        let b = lacking_later(batch, stride, klen, from, to, n - i - 1);
+    let mut c = 0;
+    for i in 0..n {
+        let from = i * stride;
+        let a = lacking(t, stride, klen, record(batch, stride, i));
+        let b = lacking_later(batch, stride, klen, from, from + stride, n - i - 1);
         c += a * b;
-        from = to;
-        i += 1;
     }
     c
 }
@@ -111,13 +107,8 @@ pub fn put_all(t: &mut [u8], stride: usize, klen: usize, batch: &[u8], n: usize)
     requires t_value_2 { fits stride (put_all klen (runs n stride 0 batch.now) (recs stride t.old)) t.old ≡ true }
     ensures { t.new ≡ laid (put_all klen (runs n stride 0 batch.now) (recs stride t.old)) t.old }
 {
-    let mut i: usize = 0;
-    let mut from: usize = 0;
-    while i < n {
-        let to = from + stride;
-        table::put(t, stride, klen, &batch[from..to]);
-        from = to;
-        i += 1;
+    for i in 0..n {
+        table::put(t, stride, klen, record(batch, stride, i));
     }
 }
 
@@ -163,11 +154,11 @@ pub fn merge_next(
     ensures { Merged stride klen held fresh rec.now t.old result.held result.fresh t.new }
 {
     match table::find_in(t, stride, klen, held, rec) {
-        table::Spot::At(i) => {
+        Ok(i) => {
             lift(t, stride, i + 1, held, fresh, rec);
             Left { held: i, fresh }
         }
-        table::Spot::Gap(i) => {
+        Err(i) => {
             lift(t, stride, i, held, fresh, rec);
             Left {
                 held: i,
@@ -189,12 +180,8 @@ pub fn merge(t: &mut [u8], stride: usize, klen: usize, batch: &[u8], n: usize, c
     let count = table::count(t);
     let mut held = count;
     let mut coming = c;
-    let mut j = n;
-    while 0 < j {
-        j -= 1;
-        let from = j * stride;
-        let to = from + stride;
-        let left = merge_next(t, stride, klen, held, coming, &batch[from..to]);
+    for i in (0..n).rev() {
+        let left = merge_next(t, stride, klen, held, coming, record(batch, stride, i));
         held = left.held;
         coming = left.fresh;
     }

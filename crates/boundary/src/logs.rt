@@ -13,16 +13,16 @@ use arguments::{Reply, replies};
 use basics::lsn::Lsn;
 use basics::page_count::PageCount;
 use volume::snapshot::{LogRange, Snapshot};
-use volume::volume::{MaybeLsn, changes};
+use volume::volume::changes;
 
 // An LSN that is missing where its flag is 0.
-fn flagged_lsn(flag: u32, lsn: u64) -> MaybeLsn
+fn flagged_lsn(flag: u32, lsn: u64) -> Option<Lsn>
     ensures { maybe_lsn_says result ≡ flagged flag lsn }
 {
     if flag == 0 {
-        return MaybeLsn::Missing;
+        return None;
     }
-    MaybeLsn::At(Lsn(lsn))
+    Some(Lsn(lsn))
 }
 
 // The LSNs above the base up to the head, or nothing; a flag 0 says that the base or the head is missing: 1, 16.

@@ -2,6 +2,7 @@
 ghost use Rattle.std.specs.Prelude.{◌≡◌, ◌≤◌, true, length};
 ghost use Rattle.std.proofs.Math.Option.{none};
 ghost use Rattle.basics.specs.Answers.{code};
+ghost use Rattle.basics.specs.Refusals.{code_of};
 ghost use Rattle.rules.specs.Records.{Volume};
 ghost use Rattle.rules.specs.Tables.{Table};
 ghost use Rattle.layout.specs.Records.{volume_bytes};
@@ -18,6 +19,7 @@ use super::Printed;
 use basics::lsn::Lsn;
 use basics::page_count::PageCount;
 use basics::pageidx::PageIdx;
+use basics::refusal::Refusal;
 use callpages::page_set;
 use calltext::Head;
 use callvalues::made::id_of;
@@ -176,10 +178,20 @@ pub fn fetch(
     writecalls::write_commit(commits, checkpoints, index, &c)
 }
 
+// The number that an answer earns: that of its refusal, and 0 where it is none.
+fn number_or_zero(answer: Result<(), Refusal>) -> u32
+    ensures { result ≡ code_of answer }
+{
+    match answer {
+        Ok(()) => 0,
+        Err(refusal) => refusal.number(),
+    }
+}
+
 // op=pull
 pub fn pull(volumes: &mut [u8], commits: &[u8], vid: u8) -> u32
     ensures value { result ≡ code (pull_on volumes.old commits.now vid) }
     ensures volumes_after { volumes.new ≡ after volume_bytes (λ (x : Table Volume). x) volumes.old (pull_on volumes.old commits.now vid) }
 {
-    synccalls::sync(volumes, commits, id_of(vid))
+    number_or_zero(synccalls::sync(volumes, commits, id_of(vid)))
 }

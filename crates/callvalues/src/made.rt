@@ -20,7 +20,6 @@ use commitbytes::commit_write;
 use commitbytes::fields::{commit_log, commit_lsn};
 use pageset::PageSet;
 use setbytes::set_write;
-use volume::volume::MaybeLsn;
 
 // The identifier of a last byte.
 pub fn id_of(last: u8) -> [u8; 16]
@@ -71,7 +70,7 @@ pub fn short_head(head: volume::snapshot::Head) -> Head
     ensures { head_says result ≡ shortly (says_head head) }
 {
     let lsn = head.lsn;
-    let MaybeLsn::At(n) = lsn else {
+    let Some(n) = lsn else {
         return Head::Nothing;
     };
     let log = head.log;

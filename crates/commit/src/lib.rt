@@ -108,17 +108,12 @@ impl SegmentIdx {
     }
 
     // The segment with these frames.
-    pub fn with_frames(self, len: usize, frames: [Frame; 16]) -> SegmentIdx
+    pub fn with_frames(mut self, len: usize, frames: [Frame; 16]) -> SegmentIdx
         ensures { result ≡ with_frames self len frames }
     {
-        let sid = self.sid;
-        let pages = self.pages;
-        SegmentIdx {
-            sid,
-            pages,
-            len,
-            frames,
-        }
+        self.len = len;
+        self.frames = frames;
+        self
     }
 }
 
@@ -198,26 +193,12 @@ impl Commit {
     }
 
     // The commit with a hash, or with what stands beside a missing one.
-    fn hashed(self, has: Presence, hash: CommitHash) -> Commit
+    fn hashed(mut self, has: Presence, hash: CommitHash) -> Commit
         ensures { result ≡ with_hash self has hash }
     {
-        let log = self.log;
-        let lsn = self.lsn;
-        let count = self.count;
-        let has_segment = self.has_segment;
-        let segment = self.segment;
-        let checkpoints = self.checkpoints;
-        Commit {
-            log,
-            lsn,
-            count,
-            has_hash: has,
-            hash,
-            has_segment,
-            segment,
-            listed: self.listed,
-            checkpoints,
-        }
+        self.has_hash = has;
+        self.hash = hash;
+        self
     }
 
     // The commit with this hash.
@@ -235,26 +216,12 @@ impl Commit {
     }
 
     // The commit with a segment, or with what stands beside a missing one.
-    fn segmented(self, has: Presence, segment: SegmentIdx) -> Commit
+    fn segmented(mut self, has: Presence, segment: SegmentIdx) -> Commit
         ensures { result ≡ with_segment self has segment }
     {
-        let log = self.log;
-        let lsn = self.lsn;
-        let count = self.count;
-        let has_hash = self.has_hash;
-        let hash = self.hash;
-        let checkpoints = self.checkpoints;
-        Commit {
-            log,
-            lsn,
-            count,
-            has_hash,
-            hash,
-            has_segment: has,
-            segment,
-            listed: self.listed,
-            checkpoints,
-        }
+        self.has_segment = has;
+        self.segment = segment;
+        self
     }
 
     // The commit with this segment.

@@ -17,13 +17,11 @@ fn none_zero(s: &[u8], at: usize, n: usize) -> bool
     requires { (n ≤ 8) × (at + n * 8 ≤ length s.now) }
     ensures { result ≡ all counts (lsns_at n at s.now) }
 {
-    let mut i: usize = 0;
-    while i < n {
+    for i in 0..n {
         let lsn = load64(s, at + i * 8);
         if lsn == 0 {
             return false;
         }
-        i += 1;
     }
     true
 }
@@ -33,7 +31,7 @@ pub fn lsns_form(s: &[u8], at: usize) -> bool
     requires { at + 65 ≤ length s.now }
     ensures { result ≡ in_form (listed (number 8) 8) lsns_form (part at 65 s.now) }
 {
-    let n = load8(s, at) as usize;
+    let n = usize::from(load8(s, at));
     if 8 < n {
         return false;
     }
@@ -61,31 +59,27 @@ pub fn lsns_number(s: &[u8], at: usize) -> usize
 }
 
 // The LSNs that the 65 bytes at a place spell, in an array; zero past them.
+// Kept: windows, frames and ranges have the same loop in their crates; a trait would want an impl where neither it nor the type stands, and a closure a law longer than the loop.
 pub fn lsns_read(s: &[u8], at: usize) -> [Lsn; 8]
     requires { at + 65 ≤ length s.now }
     ensures { result ≡ lsns_laid ((listed (number 8) 8).read (part at 65 s.now)) }
 {
     let n = count_read(s, at, 8);
     let mut ns = no_checkpoints();
-    let mut i: usize = 0;
-    while i < n {
-        let lsn = Lsn(load64(s, at + 1 + i * 8));
-        ns[i] = lsn;
-        i += 1;
+    for i in 0..n {
+        ns[i] = Lsn(load64(s, at + 1 + i * 8));
     }
     ns
 }
 
 // All LSNs of an array over the 64 bytes at a place.
+// Kept: windows, frames and ranges have the same loop in their crates; a trait would want an impl where neither it nor the type stands, and a closure a law longer than the loop.
 fn all_write(s: &mut [u8], at: usize, ns: [Lsn; 8])
     requires { at + 64 ≤ length s.old }
     ensures { s.new ≡ put at (flat (λ n. bytes_of 8 (lsn_says n)) ns) s.old }
 {
-    let mut i: usize = 0;
-    while i < 8 {
-        let n = ns[i];
-        store64(s, at + 8 * i, n.0);
-        i += 1;
+    for (i, lsn) in ns.iter().enumerate() {
+        store64(s, at + 8 * i, lsn.0);
     }
 }
 

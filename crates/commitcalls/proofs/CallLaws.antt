@@ -1,6 +1,6 @@
 -- What the calls answer at each return. A test that the code has passed takes the rule's test away, one after another (20, then 1, then 3), and the place of the commit
 -- says the value; a row of a formed table is the bytes of the commit that it spells, so a copy of the row is the answer's bytes.
-use Rattle.std.proofs.Common.{◌≡◌, ℕ, ◌+◌, ◌*◌, ◌<◌, Bool, true, false, eqb, List, length, sym, refl, ap, ◌∙◌, subst, ap₂, arith, le-ltb, lt-ltb, eq-eqb, ne_eqb}
+use Rattle.std.proofs.Common.{◌≡◌, ℕ, ◌+◌, ◌*◌, ◌<◌, Bool, true, false, eqb, List, length, sym, refl, ap, ◌∙◌, subst, ap₂, arith, le-ltb, lt-ltb, eq-eqb, ne_eqb, Option as Maybe, Some, None}
 use mathlib.Core.Option.{Option, none, some, map}
 use Rattle.octets.specs.Bytes.{part}
 use Rattle.basics.specs.Answers.{Answer, refused, done, ask, ◌>>◌}
@@ -18,8 +18,6 @@ use Rattle.rows.proofs.Rows.{formed_rules}
 use Rattle.rows.proofs.Checks.{row_spelled}
 use Rattle.rows.proofs.Tables.{commits}
 use Rattle.commits.specs.Places.{commit_at, place_says}
-use Rattle.commits.specs.declared.Place.{Place}
-use Rattle.commits.specs.declared.Place.TheVariants as Place
 use Rattle.commitcalls.specs.Says.{Answered}
 
 -- ---- the tests, in their order
@@ -100,14 +98,14 @@ module _ {R : Type 0} (c : Codec R) (out : List ℕ) (size : ℕ) where
       let z : sized size out answer ≡ done o = asked answer o e ∙ ap (λ (b : Bool). ask b 3 >> done o) (eq-eqb (length out) size h) in
       subst (λ (a : Answer (Option R)). Answered c a found out after) (ap done q ∙ sym z) w
 
-module _ (t : List ℕ) (f : commits_ok t ≡ true) (p : Place) (out : List ℕ) where
+module _ (t : List ℕ) (f : commits_ok t ≡ true) (p : Maybe ℕ) (out : List ℕ) where
   -- the row of the place, copied
-  pub copied : (i at : ℕ) (after : List ℕ) → p ≡ Place.At i → i < count_of t → at ≡ 2 + i * 722 → length out ≡ 722 → after ≡ part at (length out) t
+  pub copied : (i at : ℕ) (after : List ℕ) → p ≡ Some i → i < count_of t → at ≡ 2 + i * 722 → length out ≡ 722 → after ≡ part at (length out) t
       → Answered commit_bytes (done (place_says t p)) (done true) out after
   copied i at after e l q h w =
       let z : after ≡ commit_bytes.spell (commit_at t i) = w ∙ ap₂ (λ (a n : ℕ). part a n t) q h ∙ sym (row_spelled commits t f i l) in
-      subst (λ (x : Place). Answered commit_bytes (done (place_says t x)) (done true) out after) (sym e) (record { says = refl; bytes = z })
+      subst (λ (x : Maybe ℕ). Answered commit_bytes (done (place_says t x)) (done true) out after) (sym e) (record { says = refl; bytes = z })
 
   -- nothing to copy
-  pub nothing : p ≡ Place.Missing → Answered commit_bytes (done (place_says t p)) (done false) out out
-  nothing e = subst (λ (x : Place). Answered commit_bytes (done (place_says t x)) (done false) out out) (sym e) (record { says = refl; bytes = refl })
+  pub nothing : p ≡ None → Answered commit_bytes (done (place_says t p)) (done false) out out
+  nothing e = subst (λ (x : Maybe ℕ). Answered commit_bytes (done (place_says t x)) (done false) out out) (sym e) (record { says = refl; bytes = refl })

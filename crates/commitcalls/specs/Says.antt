@@ -1,25 +1,23 @@
 -- What each answer of the calls says: document 01's number, or the value under 0; and what a call that answers a record leaves in the bytes lent for it.
-use Rattle.std.specs.Prelude.{◌≡◌, ℕ, Bool, true, false, List}
+use Rattle.std.specs.Prelude.{◌≡◌, ℕ, Bool, List, Option as Maybe, Some, None, Result, Ok, Err}
 use Rattle.std.proofs.Math.Option.{Option, none, some}
 use Rattle.basics.specs.Answers.{Answer, refused, done, ◌>>=◌}
+use Rattle.basics.specs.Refusals.{number_of}
+use Rattle.basics.specs.declared.page_count.PageCount.{PageCount}
+use Rattle.basics.specs.declared.refusal.Refusal.{Refusal}
 use Rattle.rules.specs.Lists.{is_some}
 use Rattle.layout.specs.Codecs.{Codec}
-use Rattle.commitcalls.specs.declared.MaybeCountAnswer.{MaybeCountAnswer}
-use Rattle.commitcalls.specs.declared.MaybeCountAnswer.TheVariants as MaybeCountAnswer
-use Rattle.commitcalls.specs.declared.FoundAnswer.{FoundAnswer}
-use Rattle.commitcalls.specs.declared.FoundAnswer.TheVariants as FoundAnswer
 
 -- a page count, or nothing
-abbrev pub maybe_count_says : MaybeCountAnswer → Answer (Option ℕ)
-maybe_count_says (MaybeCountAnswer.Refused n) = refused n
-maybe_count_says (MaybeCountAnswer.Count n) = done (some n.0)
-maybe_count_says MaybeCountAnswer.Nothing = done none
+abbrev pub maybe_count_says : Result (Maybe PageCount) Refusal → Answer (Option ℕ)
+maybe_count_says (Err r) = refused (number_of r)
+maybe_count_says (Ok (Some n)) = done (some n.0)
+maybe_count_says (Ok None) = done none
 
 -- whether a record was found
-abbrev pub found_says : FoundAnswer → Answer Bool
-found_says (FoundAnswer.Refused n) = refused n
-found_says FoundAnswer.Found = done true
-found_says FoundAnswer.Nothing = done false
+abbrev pub found_says : Result Bool Refusal → Answer Bool
+found_says (Err r) = refused (number_of r)
+found_says (Ok b) = done b
 
 module _ {R : Type 0} (c : Codec R) where
   -- the bytes lent for a record, after the call: its bytes where it was found, else as they were

@@ -13,97 +13,82 @@ ghost use Rattle.commits.specs.Places.{place_says, Inside};
 ghost use Rattle.commitcalls.specs.Says.{maybe_count_says, found_says, Answered};
 
 use basics::id::LogId;
-use basics::lsn::{Lsn, MaybeLsnAnswer};
+use basics::lsn::Lsn;
 use basics::page_count::PageCount;
-use commits::{Place, commits_formed};
+use basics::refusal::Refusal;
+use commits::commits_formed;
 use layout::COMMIT;
 
-// A page count or nothing, or the number of a refusal.
-#[derive(Clone, Copy)]
-pub enum MaybeCountAnswer {
-    Refused(u32),
-    Count(PageCount),
-    Nothing,
-}
-
-// Whether a record was found and written to the lent place, or the number of a refusal.
-#[derive(Clone, Copy)]
-pub enum FoundAnswer {
-    Refused(u32),
-    Found,
-    Nothing,
-}
-
 // The LSN of the log's latest commit, its highest: 20.
-pub fn latest_lsn(commits: &[u8], log: LogId) -> MaybeLsnAnswer
+pub fn latest_lsn(commits: &[u8], log: LogId) -> Result<Option<Lsn>, Refusal>
     ensures { maybe_lsn_says result ≡ lent (commits_ok commits.now) (latest_lsn_read (commits_in commits.now) log) }
 {
     if !commits_formed(commits) {
-        return MaybeLsnAnswer::Refused(20);
+        return Err(Refusal::TableForm);
     }
     match commits::latest(commits, log) {
-        Place::At(i) => MaybeLsnAnswer::At(Lsn(commits::lsn_at(commits, i))),
-        Place::Missing => MaybeLsnAnswer::Nothing,
+        Some(i) => Ok(Some(Lsn(commits::lsn_at(commits, i)))),
+        None => Ok(None),
     }
 }
 
 // The page count of the log's commit at an LSN: 20, 1.
-pub fn page_count(commits: &[u8], log: LogId, lsn: Lsn) -> MaybeCountAnswer
+pub fn page_count(commits: &[u8], log: LogId, lsn: Lsn) -> Result<Option<PageCount>, Refusal>
     ensures { maybe_count_says result ≡ lent (commits_ok commits.now) (page_count_read (commits_in commits.now) log lsn.0) }
 {
     if !commits_formed(commits) {
-        return MaybeCountAnswer::Refused(20);
+        return Err(Refusal::TableForm);
     }
     let n = lsn.0;
     if n == 0 {
-        return MaybeCountAnswer::Refused(1);
+        return Err(Refusal::Zero);
     }
     match commits::find_commit(commits, log, n) {
-        Place::At(i) => MaybeCountAnswer::Count(PageCount(commits::count_at(commits, i))),
-        Place::Missing => MaybeCountAnswer::Nothing,
+        Some(i) => Ok(Some(PageCount(commits::count_at(commits, i)))),
+        None => Ok(None),
     }
 }
 
 // The commit at a place of the table written to `out`, if there is one.
-fn write_found(t: &[u8], place: Place, out: &mut [u8]) -> FoundAnswer
+fn write_found(t: &[u8], place: Option<usize>, out: &mut [u8]) -> Result<bool, Refusal>
     requires { (commits_ok t.now ≡ true) × Inside t.now place × (length out.old ≡ 722) }
     ensures { Answered commit_bytes (done (place_says t.now place)) (found_says result) out.old out.new }
 {
     match place {
-        Place::At(i) => {
+        Some(i) => {
             octets::load_all(t, commits::row(t, i), out);
-            FoundAnswer::Found
+            Ok(true)
         }
-        Place::Missing => FoundAnswer::Nothing,
+        None => Ok(false),
     }
 }
 
 // The log's commit at an LSN, to `out`: 20, 1, 3.
-pub fn commit_read(commits: &[u8], log: LogId, lsn: Lsn, out: &mut [u8]) -> FoundAnswer
+pub fn commit_read(commits: &[u8], log: LogId, lsn: Lsn, out: &mut [u8]) -> Result<bool, Refusal>
     ensures { Answered commit_bytes (sized 722 out.old (lent (commits_ok commits.now) (commit_read (commits_in commits.now) log lsn.0))) (found_says result) out.old out.new }
 {
     if !commits_formed(commits) {
-        return FoundAnswer::Refused(20);
+        return Err(Refusal::TableForm);
     }
     let n = lsn.0;
     if n == 0 {
-        return FoundAnswer::Refused(1);
+        return Err(Refusal::Zero);
     }
     if out.len() != COMMIT {
-        return FoundAnswer::Refused(3);
+        return Err(Refusal::Form);
     }
     write_found(commits, commits::find_commit(commits, log, n), out)
 }
 
 // The log's latest commit, to `out`: 20, 3.
-pub fn latest_commit(commits: &[u8], log: LogId, out: &mut [u8]) -> FoundAnswer
+pub fn latest_commit(commits: &[u8], log: LogId, out: &mut [u8]) -> Result<bool, Refusal>
     ensures { Answered commit_bytes (sized 722 out.old (lent (commits_ok commits.now) (latest_commit_read (commits_in commits.now) log))) (found_says result) out.old out.new }
 {
     if !commits_formed(commits) {
-        return FoundAnswer::Refused(20);
+        return Err(Refusal::TableForm);
     }
     if out.len() != COMMIT {
-        return FoundAnswer::Refused(3);
+        return Err(Refusal::Form);
     }
     write_found(commits, commits::latest(commits, log), out)
 }

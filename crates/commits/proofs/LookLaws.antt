@@ -1,6 +1,6 @@
 -- What the lookups find, from what the search in the table's bytes says: the key's bytes name the key, so the spot of the bytes is the record of the key, the record at
 -- the place of the log's last LSN is its latest if it is the log's, and the run between the keys of a range's ends is its commits.
-use Rattle.std.proofs.Common.{◌≡◌, ℕ, ◌-◌, ◌^◌, ◌<◌, ◌≤◌, Bool, true, false, cond, List, length, sym, ap, ◌∙◌, subst, arith}
+use Rattle.std.proofs.Common.{◌≡◌, ℕ, ◌-◌, ◌^◌, ◌<◌, ◌≤◌, Bool, true, false, cond, List, length, sym, ap, ◌∙◌, subst, arith, Ok, Err, Option as Maybe, Some, None}
 use mathlib.Core.Option.{Option, none, some}
 use Rattle.basics.specs.Numbers.{last_lsn}
 use Rattle.rules.specs.Records.{Id, Commit}
@@ -8,7 +8,6 @@ use Rattle.rules.specs.Tables.{same_id, get_commit, latest}
 use Rattle.table.specs.Records.{spot, place}
 use Rattle.table.specs.Table.{count_of, recs}
 use Rattle.table.specs.Run.{RunOf}
-use Rattle.table.specs.declared.Spot.TheVariants.{At, Gap}
 use Rattle.table.proofs.Rows.{length_recs}
 use Rattle.table.proofs.Spots.{at_lt}
 use Rattle.layout.specs.Records.{log_lsn_bytes}
@@ -18,8 +17,6 @@ use Rattle.rows.proofs.Finds.{Names, row_nth, row_end, get_at, get_gap}
 use Rattle.rows.proofs.Seeks.{latest_at, range_run}
 use Rattle.rows.proofs.Tables.{commits, commit_key_lem}
 use Rattle.commits.specs.Places.{commit_at, place_says, Inside, PlaceOf, RunOfRange}
-use Rattle.commits.specs.declared.Place.{Place}
-use Rattle.commits.specs.declared.Place.TheVariants as Place
 
 -- the bytes that code built for a key name it
 named : (log : Id) (lsn : ℕ) (kb : List ℕ) → length log ≡ 16 → lsn < 2 ^ 64 → kb ≡ log_lsn_bytes.spell (log, lsn) → Names commits kb (log, lsn)
@@ -29,13 +26,13 @@ module _ (t : List ℕ) (ok : commits_ok t ≡ true) (log : Id) (l : length log 
   -- ---- the commit at an LSN
 
   module _ (lsn : ℕ) (h : lsn < 2 ^ 64) (kb : List ℕ) (e : kb ≡ log_lsn_bytes.spell (log, lsn)) (i : ℕ) where
-    pub found_at : spot 25 kb (recs 722 t) ≡ At i → PlaceOf t (get_commit (commits_in t) log lsn) (Place.At i)
+    pub found_at : spot 25 kb (recs 722 t) ≡ Ok i → PlaceOf t (get_commit (commits_in t) log lsn) (Some i)
     found_at p = record {
       says = sym (get_at commits kb (log, lsn) (named log lsn kb l h e) t ok i p);
       inside = omega (arith, at_lt 25 kb (recs 722 t) i p, length_recs 722 t);
     }
 
-    pub found_gap : spot 25 kb (recs 722 t) ≡ Gap i → PlaceOf t (get_commit (commits_in t) log lsn) Place.Missing
+    pub found_gap : spot 25 kb (recs 722 t) ≡ Err i → PlaceOf t (get_commit (commits_in t) log lsn) None
     found_gap p = record { says = sym (get_gap commits kb (log, lsn) (named log lsn kb l h e) t ok i p); inside = tt }
 
   -- ---- the latest commit
@@ -45,7 +42,7 @@ module _ (t : List ℕ) (ok : commits_ok t ≡ true) (log : Id) (l : length log 
     unfolding last_lsn
     first_there = latest_at t ok log kb (named log (2 ^ 64 - 1) kb l (omega arith) e) i p
 
-    pub latest_end : count_of t ≤ i → PlaceOf t (latest (commits_in t) log) Place.Missing
+    pub latest_end : count_of t ≤ i → PlaceOf t (latest (commits_in t) log) None
     latest_end h = record { says = sym (first_there ∙ ap (only_if (λ (c : Commit). same_id log c.log)) (row_end commits t i h)); inside = tt }
 
     module _ (h : i < count_of t) (b : Bool) (eb : b ≡ same_id log (commit_at t i).log) where
@@ -55,10 +52,10 @@ module _ (t : List ℕ) (ok : commits_ok t ≡ true) (log : Id) (l : length log 
           ∙ ap (only_if (λ (c : Commit). same_id log c.log)) (row_nth commits t i h)
           ∙ ap (λ (x : Bool). cond x (some (commit_at t i)) none) (sym eb)
 
-      pub latest_other : b ≡ false → PlaceOf t (latest (commits_in t) log) Place.Missing
+      pub latest_other : b ≡ false → PlaceOf t (latest (commits_in t) log) None
       latest_other f = record { says = sym (first_is ∙ ap (λ (x : Bool). cond x (some (commit_at t i)) none) f); inside = tt }
 
-      pub latest_here : b ≡ true → PlaceOf t (latest (commits_in t) log) (Place.At i)
+      pub latest_here : b ≡ true → PlaceOf t (latest (commits_in t) log) (Some i)
       latest_here f = record { says = sym (first_is ∙ ap (λ (x : Bool). cond x (some (commit_at t i)) none) f); inside = h }
 
   -- ---- the commits of a range
@@ -72,10 +69,10 @@ module _ (t : List ℕ) (ok : commits_ok t ≡ true) (log : Id) (l : length log 
 
 -- ---- what a place says to a caller
 
-module _ (t : List ℕ) (o : Option Commit) (p : Place) (h : PlaceOf t o p) where
+module _ (t : List ℕ) (o : Option Commit) (p : Maybe ℕ) (h : PlaceOf t o p) where
   -- the commit that stands there is the one looked up, and it is in the table
-  pub place_at_lem : (i : ℕ) → p ≡ Place.At i → (some (commit_at t i) ≡ o) × (i < count_of t)
+  pub place_at_lem : (i : ℕ) → p ≡ Some i → (some (commit_at t i) ≡ o) × (i < count_of t)
   place_at_lem i e = (ap (place_says t) (sym e) ∙ h.says, subst (Inside t) e h.inside)
 
-  pub place_missing : p ≡ Place.Missing → none ≡ o
+  pub place_missing : p ≡ None → none ≡ o
   place_missing e = ap (place_says t) (sym e) ∙ h.says

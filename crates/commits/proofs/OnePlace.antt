@@ -1,5 +1,5 @@
 -- A lookup has one answer: since keys strictly rise, no record stands at two places, so two places that a promise allows are the same.
-use Rattle.std.proofs.Common.{◌≡◌, ℕ, zero, suc, Bool, true, List, [], ◌∷◌, sym, refl, ap, ◌∙◌, arith}
+use Rattle.std.proofs.Common.{◌≡◌, ℕ, zero, suc, Bool, true, List, [], ◌∷◌, sym, refl, ap, ◌∙◌, arith, Option as Maybe, Some, None}
 use Prim.Native.Nat.{Ordering}
 use mathlib.Core.Option.{Option, some}
 use Rattle.basics.specs.Orders.{is_lt}
@@ -14,8 +14,6 @@ use Rattle.rows.proofs.Rows.{formed_up}
 use Rattle.rows.proofs.Finds.{row_nth}
 use Rattle.rows.proofs.Tables.{commits}
 use Rattle.commits.specs.Places.{commit_at, PlaceOf}
-use Rattle.commits.specs.declared.Place.{Place}
-use Rattle.commits.specs.declared.Place.TheVariants as Place
 
 all_nth : {A : Type 0} (f : A → Bool) (l : List A) (i : ℕ) (x : A) → all f l ≡ true → nth i l ≡ some x → f x ≡ true
 unfolding all
@@ -43,11 +41,11 @@ module _ {R K : Type 0} (key : R → K) (order : K → K → Ordering) (L : Lawf
       ap suc (nth_once l i j x (and_snd (all (λ r. is_lt (order (key y) (key r))) l) (in_order key order l) up) e h)
 
 -- two places of the same record, or of none
-pub one_place : (t : List ℕ) → commits_ok t ≡ true → (o : Option Commit) (p q : Place) → PlaceOf t o p → PlaceOf t o q → p ≡ q
-one_place t ok o (Place.At i) (Place.At j) a b =
+pub one_place : (t : List ℕ) → commits_ok t ≡ true → (o : Option Commit) (p q : Maybe ℕ) → PlaceOf t o p → PlaceOf t o q → p ≡ q
+one_place t ok o (Some i) (Some j) a b =
     let e : nth i (commits_in t).rows ≡ some (commit_at t i) = row_nth commits t i a.inside in
     let h : nth j (commits_in t).rows ≡ some (commit_at t i) = row_nth commits t j b.inside ∙ b.says ∙ sym a.says in
-    ap Place.At (nth_once _ _ commits.lawful (commits_in t).rows i j (commit_at t i) (formed_up commits t ok) e h)
-one_place t ok o (Place.At i) Place.Missing a b = let z : ◌≡◌ {A = ℕ} 0 1 = cc (a.says, b.says) in absurd (omega arith)
-one_place t ok o Place.Missing (Place.At j) a b = let z : ◌≡◌ {A = ℕ} 0 1 = cc (a.says, b.says) in absurd (omega arith)
-one_place t ok o Place.Missing Place.Missing a b = refl
+    ap Some (nth_once _ _ commits.lawful (commits_in t).rows i j (commit_at t i) (formed_up commits t ok) e h)
+one_place t ok o (Some i) None a b = let z : ◌≡◌ {A = ℕ} 0 1 = cc (a.says, b.says) in absurd (omega arith)
+one_place t ok o None (Some j) a b = let z : ◌≡◌ {A = ℕ} 0 1 = cc (a.says, b.says) in absurd (omega arith)
+one_place t ok o None None a b = refl

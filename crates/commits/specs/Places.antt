@@ -1,5 +1,5 @@
 -- What the lookups in the table of commits answer: the place of a record, or a run of places.
-use Rattle.std.specs.Prelude.{◌≡◌, ℕ, ◌+◌, ◌*◌, ◌<◌, List}
+use Rattle.std.specs.Prelude.{◌≡◌, ℕ, ◌+◌, ◌*◌, ◌<◌, List, Option as Maybe, Some, None}
 use Rattle.std.proofs.Math.Option.{Option, none, some}
 use Rattle.octets.specs.Bytes.{part}
 use Rattle.table.specs.Table.{count_of}
@@ -10,25 +10,23 @@ use Rattle.rules.specs.Walk.{in_range}
 use Rattle.layout.specs.Records.{log_lsn_bytes, commit_bytes}
 use Rattle.layout.specs.Tables.{commits_in}
 use Rattle.rows.specs.Lookups.{stretch}
-use Rattle.commits.specs.declared.Place.{Place}
-use Rattle.commits.specs.declared.Place.TheVariants.{At, Missing}
 
 -- the commit that row i spells; it is record i of the table that the bytes hold (`row_nth` of rows)
 abbrev pub commit_at : List ℕ → ℕ → Commit
 commit_at t i = commit_bytes.read (part (2 + i * 722) 722 t)
 
 -- the commit at a place, or nothing
-abbrev pub place_says : List ℕ → Place → Option Commit
-place_says t (At i) = some (commit_at t i)
-place_says t Missing = none
+abbrev pub place_says : List ℕ → Maybe ℕ → Option Commit
+place_says t (Some i) = some (commit_at t i)
+place_says t None = none
 
 -- a place is that of a record of the table
-abbrev pub Inside : List ℕ → Place → Type 0
-Inside t (At i) = i < count_of t
-Inside t Missing = Unit {0}
+abbrev pub Inside : List ℕ → Maybe ℕ → Type 0
+Inside t (Some i) = i < count_of t
+Inside t None = Unit {0}
 
--- p is where the record o stands; Missing where there is none
-pub record PlaceOf (t : List ℕ) (o : Option Commit) (p : Place) : Type 0 where
+-- p is where the record o stands; None where there is none
+pub record PlaceOf (t : List ℕ) (o : Option Commit) (p : Maybe ℕ) : Type 0 where
   pub says : place_says t p ≡ o
   pub inside : Inside t p
 

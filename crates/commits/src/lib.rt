@@ -9,35 +9,51 @@ ghost use Rattle.rules.specs.Tables.{same_id, get_commit, latest};
 ghost use Rattle.rules.specs.Push.{is_hash};
 ghost use Rattle.rules.specs.Save.{has_sid};
 ghost use Rattle.commits.specs.Places.{commit_at, PlaceOf, RunOfRange};
+ghost use Rattle.rows.proofs.Rows.{formed_tests};
+ghost use Rattle.rows.proofs.Tables.{commits};
+ghost use Rattle.std.proofs.Common.{lit<, lit≤};
+ghost use Rattle.layout.specs.Codecs.{in_form};
+ghost use Rattle.rules.specs.Forms.{commit_form};
+ghost use Rattle.layout.specs.Records.{commit_bytes};
 
 use basics::id::{LogId, SegmentId};
 use commit::Presence;
 use commitbytes::{commit_form, fields};
 use layout::{COMMIT, COMMIT_KEY, log_key};
+use rows::Kind;
 
-// Where a commit stands in the table, or that there is none.
-#[derive(Clone, Copy)]
-pub enum Place {
-    At(usize),
-    Missing,
+// Commits as a kind of record.
+struct Commits;
+
+impl Kind for Commits {
+    ghost form = { λ b. in_form commit_bytes commit_form b };
+
+    ghost table = { λ t. commits_ok t };
+
+    const SIZE: usize = COMMIT;
+
+    ghost SIZE = { 722 };
+
+    const KEY: usize = COMMIT_KEY;
+
+    ghost KEY = { 25 };
+
+    fn in_form(s: &[u8], at: usize) -> bool {
+        commit_form(s, at)
+    }
+
+    ghost sized = { lit< tt };
+
+    ghost short = { lit≤ tt };
+
+    ghost tests = { λ t. formed_tests commits t };
 }
 
 // Whether bytes are a table of commits: their count, the order of their keys and the form of each (20).
 pub fn commits_formed(t: &[u8]) -> bool
     ensures { result ≡ commits_ok t.now }
 {
-    if !table::well_ordered(t, COMMIT, COMMIT_KEY) {
-        return false;
-    }
-    let n = table::count(t);
-    let mut i: usize = 0;
-    while i < n {
-        if !commit_form(t, 2 + i * COMMIT) {
-            return false;
-        }
-        i += 1;
-    }
-    true
+    rows::formed::<Commits>(t)
 }
 
 // Where record i begins.
@@ -106,31 +122,31 @@ pub fn sid_is(t: &[u8], i: usize, sid: SegmentId) -> bool
 // ---- lookups
 
 // Where the log's commit at an LSN stands.
-pub fn find_commit(t: &[u8], log: LogId, lsn: u64) -> Place
+pub fn find_commit(t: &[u8], log: LogId, lsn: u64) -> Option<usize>
     requires { commits_ok t.now ≡ true }
     ensures { PlaceOf t.now (get_commit (commits_in t.now) log lsn) result }
 {
     let key = log_key(log, lsn);
     match table::find(t, COMMIT, COMMIT_KEY, &key) {
-        table::Spot::At(i) => Place::At(i),
-        table::Spot::Gap(_) => Place::Missing,
+        Ok(i) => Some(i),
+        Err(_) => None,
     }
 }
 
 // Where the log's latest commit stands: the first record at or after the key of the last LSN, if it is the log's.
-pub fn latest(t: &[u8], log: LogId) -> Place
+pub fn latest(t: &[u8], log: LogId) -> Option<usize>
     requires { commits_ok t.now ≡ true }
     ensures { PlaceOf t.now (latest (commits_in t.now) log) result }
 {
     let key = log_key(log, 18446744073709551615);
     let i = table::from_key(t, COMMIT, COMMIT_KEY, &key);
     if i == table::count(t) {
-        return Place::Missing;
+        return None;
     }
     if !log_is(t, i, log) {
-        return Place::Missing;
+        return None;
     }
-    Place::At(i)
+    Some(i)
 }
 
 // The run of the log's commits from the LSN `end` down to `start`.

@@ -49,12 +49,10 @@ pub fn store_copies(
     ensures index_after { index.new ≡ laid_over entry_bytes (write_all (logs_in commits.old checkpoints.old index.old) (renumbered log (path_commits (commits_in commits.old) (left_says left)))).index index.old }
 {
     let mut rest = left;
-    let mut k = n;
-    while 0 < k {
+    for k in (0..n).rev() {
         let met = next_commit(commits, rest);
-        let c = copied_row(commits, met.row, log, k as u64);
+        let c = copied_row(commits, met.row, log, k as u64 + 1);
         write_stored(commits, checkpoints, index, &c);
         rest = met.left;
-        k -= 1;
     }
 }

@@ -47,14 +47,12 @@ fn new_entries(commits: &[u8], index: &[u8], left: Left, n: usize, log: LogId) -
     ensures { result ≡ news entry_key log_page_lsn (each entries_of (renumbered log (path_commits (commits_in commits.now) (left_says left)))) (index_in index.now).rows }
 {
     let mut rest = left;
-    let mut k = n;
     let mut total: usize = 0;
-    while 0 < k {
+    for k in (0..n).rev() {
         let met = next_commit(commits, rest);
-        let c = copied_row(commits, met.row, log, k as u64);
+        let c = copied_row(commits, met.row, log, k as u64 + 1);
         total += new_entries_of(index, &c);
         rest = met.left;
-        k -= 1;
     }
     total
 }
@@ -66,14 +64,10 @@ fn listed_at(s: &[u8], at: usize, n: usize, lsn: u64) -> bool
     requires { at + n * 8 ≤ length s.now }
     ensures { result ≡ any (nat_eq lsn) (lsns_at n at s.now) }
 {
-    let mut from = at;
-    let mut m = n;
-    while 0 < m {
-        if load64(s, from) == lsn {
+    for i in 0..n {
+        if load64(s, at + i * 8) == lsn {
             return true;
         }
-        from += 8;
-        m -= 1;
     }
     false
 }
@@ -95,14 +89,12 @@ fn listed_later(commits: &[u8], left: Left, n: usize, lsn: u64) -> bool
     ensures { result ≡ any (lists lsn) (path_commits (commits_in commits.now) (left_says left)) }
 {
     let mut rest = left;
-    let mut k = n;
-    while 0 < k {
+    for _k in (0..n).rev() {
         let met = next_commit(commits, rest);
         if lists_lsn(commits, met.row, lsn) {
             return true;
         }
         rest = met.left;
-        k -= 1;
     }
     false
 }
@@ -146,13 +138,12 @@ fn new_checkpoints_of(
     ensures { (result ≡ news checkpoint_key log_lsn (map (checkpoint log) (commit_at commits.now row).checkpoints) (each checkpoints_of (renumbered log (path_commits (commits_in commits.now) (left_says left))) ++ (checkpoints_in checkpoints.now).rows)) × (result ≤ 8) }
 {
     let at = commits::row(commits, row) + 657;
-    let mut m = count_read(commits, at, 8);
+    let n = count_read(commits, at, 8);
     let mut from = at + 1;
     let mut total: usize = 0;
-    while 0 < m {
+    for m in (0..n).rev() {
         let lsn = load64(commits, from);
         from += 8;
-        m -= 1;
         total += new_checkpoint(commits, checkpoints, from, m, left, k, log, lsn);
     }
     total
@@ -165,12 +156,10 @@ fn new_checkpoints(commits: &[u8], checkpoints: &[u8], left: Left, n: usize, log
     ensures { result ≡ news checkpoint_key log_lsn (each checkpoints_of (renumbered log (path_commits (commits_in commits.now) (left_says left)))) (checkpoints_in checkpoints.now).rows }
 {
     let mut rest = left;
-    let mut k = n;
     let mut total: usize = 0;
-    while 0 < k {
+    for k in (0..n).rev() {
         let met = next_commit(commits, rest);
         rest = met.left;
-        k -= 1;
         total += new_checkpoints_of(commits, checkpoints, met.row, rest, k, log);
     }
     total

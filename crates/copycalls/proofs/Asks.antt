@@ -1,5 +1,5 @@
 -- What the calls ask of lent bytes: of the tables, one after another; of the arguments, in the order 1, 2, 3; of the identifiers, one after another. Where all is well each test holds.
-use Rattle.std.proofs.Common.{◌≡◌, ℕ, ◌<◌, Bool, true, false, not, ◌&&◌, eqb, List, length, sym, refl, ap, ◌∙◌, ap₂, arith, eq-eqb, ne_eqb, eqb-true}
+use Rattle.std.proofs.Common.{◌≡◌, ℕ, ◌<◌, Bool, true, false, not, ◌&&◌, eqb, List, length, sym, refl, ap, ◌∙◌, ap₂, arith, eq-eqb, ne_eqb, eqb-true, None}
 use mathlib.Core.Option.{Option, none, some}
 use Rattle.basics.specs.Answers.{Answer, refused, done, code, ask, ◌>>◌}
 use Rattle.rules.specs.Lists.{is_none}
@@ -14,8 +14,6 @@ use Rattle.layout.specs.Tables.{volumes_ok, commits_ok, checkpoints_ok, index_ok
 use Rattle.volume.specs.Snapshots.{snapshot_says, laid}
 use Rattle.volume.specs.declared.snapshot.Snapshot.{Snapshot as CodeSnapshot}
 use Rattle.volume.specs.Volumes.{volume_says}
-use Rattle.volume.specs.declared.volume.Sync.TheVariants as Sync
-use Rattle.volume.specs.declared.volume.PendingCommit.TheVariants as PendingCommit
 use Rattle.volume.specs.declared.volume.Volume.{Volume as CodeVolume}
 use Rattle.arguments.specs.Snapshots.{snapshot_in, snapshot_formed}
 use Rattle.arguments.proofs.SnapshotLaws.{arg_says}
@@ -135,7 +133,7 @@ module _ (vs : Table Volume) (cs : Table Commit) (x : Ids) where
 
 -- ---- the new volume
 
-pub new_good : (vid local remote h : Id) (r : CodeVolume) → r ≡ record { vid = vid; local = local; remote = remote; sync = Sync.Missing; pending = PendingCommit.Missing; pending_hash = h }
+pub new_good : (vid local remote : Id) (r : CodeVolume) → r ≡ record { vid = vid; local = local; remote = remote; sync = None; pending = None }
     → id_form vid ≡ true → id_form local ≡ true → id_form remote ≡ true → (volume_says r ≡ new_volume (ids vid local remote)) × (volume_form (volume_says r) ≡ true)
 unfolding volume_form
-new_good vid local remote h r e a b c = (ap volume_says e, ap (λ (v : CodeVolume). volume_form (volume_says v)) e ∙ and_both (and_both (and_both (and_both a b) c) refl) refl)
+new_good vid local remote r e a b c = (ap volume_says e, ap (λ (v : CodeVolume). volume_form (volume_says v)) e ∙ and_both (and_both (and_both (and_both a b) c) refl) refl)

@@ -19,13 +19,13 @@ use arguments::snapshots::{snapshot_arg, snapshot_ok};
 use basics::id::{LogId, VolumeId};
 use basics::lsn::Lsn;
 use basics::{commit_hash, id};
-use commits::{Place, find_commit};
+use commits::find_commit;
 use copies::room::room_for_copies;
 use copies::store_copies;
 use layout::VOLUME;
 use paths::{Left, commits_left, without};
 use volume::snapshot::LogRange;
-use volume::volume::{PendingCommit, Sync, Volume};
+use volume::volume::Volume;
 use volumebytes::put_out;
 use volumes::{put_volume, room_for_volume, vid_free, volumes_formed};
 use writecalls::logs_formed;
@@ -70,8 +70,8 @@ fn log_free(commits: &[u8], log: LogId) -> bool
     ensures { result ≡ is_none (latest (commits_in commits.now) log) }
 {
     match commits::latest(commits, log) {
-        Place::At(_) => false,
-        Place::Missing => true,
+        Some(_) => false,
+        None => true,
     }
 }
 
@@ -98,14 +98,7 @@ fn copy_free(volumes: &[u8], commits: &[u8], vid: VolumeId, local: LogId, remote
 fn new_volume(vid: VolumeId, local: LogId, remote: LogId) -> Volume
     ensures { (volume_says result ≡ new_volume (ids vid local remote)) × (volume_form (volume_says result) ≡ true) }
 {
-    Volume::new(
-        vid,
-        local,
-        remote,
-        Sync::Missing,
-        PendingCommit::Missing,
-        commit_hash::zero(),
-    )
+    Volume::new(vid, local, remote, None, None)
 }
 
 // ---- a path copied
@@ -259,7 +252,7 @@ pub fn from_logref(
     if out.len() != VOLUME {
         return Reply { code: 3, found: 0 };
     }
-    let Place::At(_) = find_commit(commits, log, lsn) else {
+    let Some(_) = find_commit(commits, log, lsn) else {
         return Reply { code: 0, found: 0 };
     };
     let left = log_path(log, lsn, local);

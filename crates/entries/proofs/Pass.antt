@@ -1,12 +1,12 @@
 -- The pass over a table: what is left to ask once the record before is known to be in form. A turn asks the form of the next record and that the one before is below it.
-use Rattle.std.proofs.Common.{◌≡◌, ℕ, zero, suc, ◌+◌, ◌-◌, ◌*◌, ◌<◌, ◌≤◌, Bool, true, false, not, ◌&&◌, leb, List, ◌∷◌, length, sym, refl, ap, ◌∙◌, ap₂, arith, le-leb, leb-true}
+use Rattle.std.proofs.Common.{◌≡◌, ℕ, zero, suc, ◌+◌, ◌-◌, ◌*◌, ◌<◌, ◌≤◌, Bool, true, false, not, ◌&&◌, leb, List, ◌∷◌, length, sym, refl, ap, ◌∙◌, ap₂, arith, suc-mul, le-leb, leb-true}
 use borrow.Author.Tests.{lt-leb, not-true, not-false}
 use Rattle.octets.specs.Bytes.{part, AreBytes}
 use Rattle.octets.specs.Order.{is_less}
 use Rattle.octets.proofs.Places as P
 use Rattle.table.specs.Records.{cmp, rises}
 use Rattle.table.specs.Table.{runs, recs, count_of, cap_of, well_ordered}
-use Rattle.table.proofs.Rows.{recs_are, cap_room}
+use Rattle.table.proofs.Rows.{recs_are, cap_room, rows_lt}
 use Rattle.rules.specs.Lists.{all}
 use Rattle.rules.proofs.TableLaws.{and_fst, and_snd}
 use Rattle.layout.specs.Records.{log_lsn_bytes, log_page_lsn_bytes, sid_page_bytes, checkpoint_bytes, entry_bytes, present_bytes}
@@ -62,7 +62,7 @@ size_some Checkpoints = omega arith
 size_some Index = omega arith
 size_some Presence = omega arith
 
-module _ (k : Keyed) (t : List ℕ) (by : AreBytes t) where
+module _ (k : Keyed) (t : List ℕ) where
   abbrev s : ℕ
   s = size_of k
 
@@ -73,16 +73,15 @@ module _ (k : Keyed) (t : List ℕ) (by : AreBytes t) where
 
   -- the first record
   module _ (n : ℕ) (some : 0 < n) (x : Row) (ex : x ≡ row_of k (part 2 s t)) where
-    first_form : row_form k (part 2 s t) ≡ x.formed
-    first_form = sym (ap (λ (r : Row). r.formed) ex)
+    first_is : rows_ok k n t ≡ (x.formed && later s (row_form k) t (n - 1) 2)
+    unfolding rows_ok
+    first_is = from_first s (row_form k) t n some ∙ ap (λ b. b && later s (row_form k) t (n - 1) 2) (sym (ap (λ (r : Row). r.formed) ex))
 
     pub first_not : not x.formed ≡ true → false ≡ rows_ok k n t
-    unfolding rows_ok
-    first_not h = sym (from_first s (row_form k) t n some ∙ ap (λ b. b && later s (row_form k) t (n - 1) 2) (first_form ∙ not-true x.formed h))
+    first_not h = sym (first_is ∙ ap (λ b. b && later s (row_form k) t (n - 1) 2) (not-true x.formed h))
 
-    pub first_yes : not x.formed ≡ false → rows_ok k n t ≡ later s (row_form k) t (n - 1) 2
-    unfolding rows_ok
-    first_yes h = from_first s (row_form k) t n some ∙ ap (λ b. b && later s (row_form k) t (n - 1) 2) (first_form ∙ not-false x.formed h)
+    first_yes : not x.formed ≡ false → rows_ok k n t ≡ later s (row_form k) t (n - 1) 2
+    first_yes h = first_is ∙ ap (λ b. b && later s (row_form k) t (n - 1) 2) (not-false x.formed h)
 
   -- record i, which stands behind the record at a place
   module _ (n i at : ℕ) (l : i < n) (e : rows_ok k n t ≡ later s (row_form k) t (n - i) at) (y : Row) (ey : y ≡ row_of k (part (at + s) s t)) where
@@ -97,11 +96,11 @@ module _ (k : Keyed) (t : List ℕ) (by : AreBytes t) where
         ∙ later_next s (row_form k) t (n - (i + 1)) at
         ∙ ap (λ b. b && (is_less (cmp s (part at s t) (part (at + s) s t)) && later s (row_form k) t (n - (i + 1)) (at + s))) next_form
 
-    pub next_not : not y.formed ≡ true → false ≡ rows_ok k n t
+    next_not : not y.formed ≡ true → false ≡ rows_ok k n t
     next_not h = sym (next_is ∙ ap (λ b. b && (is_less (cmp s (part at s t) (part (at + s) s t)) && later s (row_form k) t (n - (i + 1)) (at + s))) (not-true y.formed h))
 
     -- both are in form: their numbers decide
-    module _ (h : not y.formed ≡ false) (x : Row) (ex : x ≡ row_of k (part at s t)) (fx : x.formed ≡ true) (room : at + s + s ≤ length t) (b : Bool) (eb : b ≡ is_less (row_order x y)) where
+    module _ (by : AreBytes t) (h : not y.formed ≡ false) (x : Row) (ex : x ≡ row_of k (part at s t)) (fx : x.formed ≡ true) (room : at + s + s ≤ length t) (b : Bool) (eb : b ≡ is_less (row_order x y)) where
       below_is : is_less (cmp s (part at s t) (part (at + s) s t)) ≡ b
       below_is =
           ap is_less
@@ -113,15 +112,71 @@ module _ (k : Keyed) (t : List ℕ) (by : AreBytes t) where
       both : rows_ok k n t ≡ (b && later s (row_form k) t (n - (i + 1)) (at + s))
       both = next_is ∙ ap₂ (λ p q. p && (q && later s (row_form k) t (n - (i + 1)) (at + s))) (not-false y.formed h) below_is
 
-      pub below_not : not b ≡ true → false ≡ rows_ok k n t
+      below_not : not b ≡ true → false ≡ rows_ok k n t
       below_not g = sym (both ∙ ap (λ q. q && later s (row_form k) t (n - (i + 1)) (at + s)) (not-true b g))
 
-      pub next_yes : not b ≡ false → rows_ok k n t ≡ later s (row_form k) t (n - (i + 1)) (at + s)
+      next_yes : not b ≡ false → rows_ok k n t ≡ later s (row_form k) t (n - (i + 1)) (at + s)
       next_yes g = both ∙ ap (λ q. q && later s (row_form k) t (n - (i + 1)) (at + s)) (not-false b g)
 
+  -- the loop before record i: the record before it is in form and x has its numbers, and what is left of the question is asked of those from it on
+  pub record Turn (n i : ℕ) (x : Row) : Type 0 where
+    pub is : x ≡ row_of k (part (2 + (i - 1) * s) s t)
+    pub formed : x.formed ≡ true
+    pub rest : rows_ok k n t ≡ later s (row_form k) t (n - i) (2 + (i - 1) * s)
+
+  -- before the second
+  pub first_turn : (n : ℕ) → 0 < n → (x : Row) → x ≡ row_of k (part 2 s t) → not x.formed ≡ false → Turn n 1 x
+  first_turn n some x ex h =
+      let e : 2 + (1 - 1) * s ≡ 2 = omega arith in
+      record {
+        is = ex ∙ ap (λ p. row_of k (part p s t)) (sym e);
+        formed = not-false x.formed h;
+        rest = first_yes n some x ex h ∙ ap (later s (row_form k) t (n - 1)) (sym e);
+      }
+
+  -- the code's number of bytes of a record
+  module _ (w : ℕ) (ew : w ≡ s) (n i : ℕ) (some : 1 ≤ i) (l : i < n) (room : 2 + n * s ≤ length t) where
+    -- record i stands behind the one before
+    place : 2 + (i - 1) * s + s ≡ 2 + i * w
+    place = behind i some ∙ ap (λ m. 2 + i * m) (sym ew)
+      where
+        behind : (j : ℕ) → 1 ≤ j → 2 + (j - 1) * s + s ≡ 2 + j * s
+        behind zero h = absurd (omega arith)
+        behind (suc j) h =
+            let e : suc j - 1 ≡ j = omega arith in
+            ap (λ m. 2 + m * s + s) e ∙ omega (arith, suc-mul j s)
+
+    -- within the bytes
+    pub turn_room : 2 + i * w + s ≤ length t
+    turn_room = omega (arith, rows_lt s l, ap (λ m. i * m) ew)
+
+    module _ (x y : Row) (turn : Turn n i x) (ey : y ≡ row_of k (part (2 + i * w) s t)) where
+      here : y ≡ row_of k (part (2 + (i - 1) * s + s) s t)
+      here = ey ∙ ap (λ p. row_of k (part p s t)) (sym place)
+
+      pub turn_not : not y.formed ≡ true → false ≡ rows_ok k n t
+      turn_not h = next_not n i (2 + (i - 1) * s) l turn.rest y here h
+
+      module _ (by : AreBytes t) (h : not y.formed ≡ false) (b : Bool) (eb : b ≡ is_less (row_order x y)) where
+        fits_lem : 2 + (i - 1) * s + s + s ≤ length t
+        fits_lem = omega (arith, place, turn_room)
+
+        pub turn_below : not b ≡ true → false ≡ rows_ok k n t
+        turn_below g = below_not n i (2 + (i - 1) * s) l turn.rest y here by h x turn.is turn.formed fits_lem b eb g
+
+        -- before the record after it
+        pub next_turn : not b ≡ false → Turn n (i + 1) y
+        next_turn g =
+            let e : 2 + i * w ≡ 2 + (i + 1 - 1) * s = ap (λ m. 2 + i * m) ew ∙ ap (λ m. 2 + m * s) (omega arith) in
+            record {
+              is = ey ∙ ap (λ p. row_of k (part p s t)) e;
+              formed = not-false y.formed h;
+              rest = next_yes n i (2 + (i - 1) * s) l turn.rest y here by h x turn.is turn.formed fits_lem b eb g ∙ ap (later s (row_form k) t (n - (i + 1))) (place ∙ e);
+            }
+
   -- no record is left
-  pub rows_end : (n i at : ℕ) → n ≤ i → rows_ok k n t ≡ later s (row_form k) t (n - i) at → true ≡ rows_ok k n t
-  rows_end n i at h e = sym (e ∙ later_end s (row_form k) t (n - i) at (omega arith))
+  pub turn_end : (n i : ℕ) → n ≤ i → (x : Row) → Turn n i x → true ≡ rows_ok k n t
+  turn_end n i h x turn = sym (turn.rest ∙ later_end s (row_form k) t (n - i) (2 + (i - 1) * s) (omega arith))
 
 -- ---- the table
 
@@ -133,7 +188,10 @@ table_is Index t = refl
 table_is Presence t = refl
 
 -- the count is asked first, and then the rows
-module _ (k : Keyed) (t : List ℕ) (b : Bool) (eb : b ≡ (leb 2 (length t) && leb (count_of t) (cap_of (size_of k) t))) where
+module _ (k : Keyed) (w : ℕ) (ew : w ≡ size_of k) (t : List ℕ) (b : Bool) (ec : b ≡ (leb 2 (length t) && leb (count_of t) (cap_of w t))) where
+  eb : b ≡ (leb 2 (length t) && leb (count_of t) (cap_of (size_of k) t))
+  eb = ec ∙ ap (λ m. leb 2 (length t) && leb (count_of t) (cap_of m t)) ew
+
   counted : (p q r u : Bool) → ((p && (q && r)) && u) ≡ ((p && q) && (r && u))
   counted true true r u = refl
   counted true false r u = refl
@@ -153,7 +211,7 @@ module _ (k : Keyed) (t : List ℕ) (b : Bool) (eb : b ≡ (leb 2 (length t) && 
     test : (leb 2 (length t) && leb (count_of t) (cap_of (size_of k) t)) ≡ true
     test = sym eb ∙ not-false b h
 
-    pub count_two : 2 ≤ length t
+    count_two : 2 ≤ length t
     count_two = leb-true 2 (length t) (and_fst (leb 2 (length t)) (leb (count_of t) (cap_of (size_of k) t)) test)
 
     pub count_room : (n : ℕ) → n ≡ count_of t → 2 + n * size_of k ≤ length t

@@ -1,5 +1,5 @@
 -- What is asked of the bytes of each record: the reserved byte is 0, and an LSN or a page number is not 0, which a complement is where all its bits are set.
-use Rattle.std.proofs.Common.{◌≡◌, ℕ, ◌+◌, ◌-◌, ◌^◌, ◌<◌, ◌≤◌, Bool, true, false, not, ◌&&◌, eqb, leb, List, length, sym, refl, ap, ◌∙◌, ap₂, arith, le-ltb, lt-ltb, eq-eqb, ne_eqb, eqb-true, le-leb}
+use Rattle.std.proofs.Common.{◌≡◌, ℕ, ◌+◌, ◌-◌, ◌^◌, ◌<◌, ◌≤◌, Bool, true, not, ◌&&◌, eqb, leb, List, length, sym, refl, ap, ◌∙◌, ap₂, arith, le-ltb, lt-ltb, ne_eqb, eqb-true, le-leb}
 use borrow.Author.Tests.{eqb-false}
 use Rattle.octets.specs.Bytes.{be, part, AreBytes}
 use Rattle.octets.proofs.Places as P
@@ -130,23 +130,8 @@ module _ (s : List ℕ) (at : ℕ) (by : AreBytes s) where
   unfolding present_bytes sid_page_bytes
   present_page = ap (λ l. 256 ^ 4 - 1 - be l) (field_at 4 0 4 (omega arith))
 
--- ---- test by test, as the code makes them: x is the reserved byte
-
-module _ (p q : Bool) (b x : ℕ) (e : p ≡ eqb b 0 && q) (f : x ≡ b) where
-  pub byte_not : (x ≡ 0 → ⊥) → false ≡ p
-  byte_not h = sym (e ∙ ap (λ t. t && q) (ne_eqb b 0 (λ z. h (f ∙ z))))
-
-  pub byte_zero : x ≡ 0 → p ≡ q
-  byte_zero z = e ∙ ap (λ t. t && q) (eq-eqb b 0 (sym f ∙ z))
+-- ---- the reserved byte
 
 -- a record in form has the reserved byte 0
 pub byte_is : (p q : Bool) (b : ℕ) → p ≡ eqb b 0 && q → p ≡ true → b ≡ 0
 byte_is p q b e h = eqb-true b 0 (and_fst (eqb b 0) q (sym e ∙ h))
-
--- the same of a page that is not to be 0
-module _ (p q : Bool) (b x : ℕ) (e : p ≡ not (eqb b 0) && q) (f : x ≡ b) where
-  pub page_zero : x ≡ 0 → false ≡ p
-  page_zero z = sym (e ∙ ap (λ t. not t && q) (eq-eqb b 0 (sym f ∙ z)))
-
-  pub page_some : (x ≡ 0 → ⊥) → p ≡ q
-  page_some h = e ∙ ap (λ t. not t && q) (ne_eqb b 0 (λ z. h (f ∙ z)))

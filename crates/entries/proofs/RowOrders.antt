@@ -2,7 +2,7 @@
 use Rattle.std.proofs.Common.{◌≡◌, ℕ, ◌+◌, ◌≤◌, true, ltb, List, length, sym, refl, ap, ◌∙◌, arith, le-ltb, lt-ltb}
 use Rattle.octets.specs.Bytes.{be, part, AreBytes}
 use Rattle.octets.specs.Order.{order, then_by, lex, is_less}
-use Rattle.octets.specs.declared.Order.{Order}
+use Rattle.std.proofs.Common.{Ordering}
 use Rattle.octets.proofs.Places as P
 use Rattle.octets.proofs.Orders as O
 use Rattle.table.specs.Records.{cmp}
@@ -43,7 +43,7 @@ module _ (x y : List ℕ) (bx : AreBytes x) (by : AreBytes y) where
   last_number : (at k : ℕ) → at + k ≤ length x → at + k ≤ length y → lex (part at k x) (part at k y) ≡ order (be (part at k x)) (be (part at k y))
   last_number at k hx hy = O.lex_be_at x y at at k bx by hx hy
 
-  behind : {o p : Order} → o ≡ p → then_by (order (be (part 1 8 x)) (be (part 1 8 y))) (then_by (order (be (part 9 8 x)) (be (part 9 8 y))) o) ≡ then_by (order (be (part 1 8 x)) (be (part 1 8 y))) (then_by (order (be (part 9 8 x)) (be (part 9 8 y))) p)
+  behind : {o p : Ordering} → o ≡ p → then_by (order (be (part 1 8 x)) (be (part 1 8 y))) (then_by (order (be (part 9 8 x)) (be (part 9 8 y))) o) ≡ then_by (order (be (part 1 8 x)) (be (part 1 8 y))) (then_by (order (be (part 9 8 x)) (be (part 9 8 y))) p)
   behind e = ap (λ q. then_by (order (be (part 1 8 x)) (be (part 1 8 y))) (then_by (order (be (part 9 8 x)) (be (part 9 8 y))) q)) e
 
   -- two records in form, of each table
@@ -69,10 +69,10 @@ is_less_order m n =
     (λ h e. ap is_less e ∙ sym (le-ltb m n (omega arith)))
 
 -- numbers that differ decide, and after equal ones the others do
-decides : (m n : ℕ) (o : Order) → (m ≡ n → ⊥) → ltb m n ≡ is_less (then_by (order m n) o)
+decides : (m n : ℕ) (o : Ordering) → (m ≡ n → ⊥) → ltb m n ≡ is_less (then_by (order m n) o)
 decides m n o h = sym (ap is_less (O.then_decided (order m n) o (O.order_differs m n h)) ∙ is_less_order m n)
 
-passes : (m n : ℕ) (o : Order) → m ≡ n → o ≡ then_by (order m n) o
+passes : (m n : ℕ) (o : Ordering) → m ≡ n → o ≡ then_by (order m n) o
 unfolding then_by
 passes m n o h = ap (λ p. then_by p o) (sym (O.order_equal m n h))
 

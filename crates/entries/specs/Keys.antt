@@ -2,7 +2,7 @@
 use Rattle.std.specs.Prelude.{ℕ, Bool, ◌&&◌, List}
 use Rattle.octets.specs.Bytes.{be, part}
 use Rattle.octets.specs.Order.{order, then_by}
-use Rattle.octets.specs.declared.Order.{Order}
+use Rattle.std.specs.declared.cmp.Ordering.{Ordering}
 use Rattle.table.specs.Table.{runs}
 use Rattle.table.specs.Records.{rises}
 use Rattle.rules.specs.Lists.{all}
@@ -56,5 +56,5 @@ abbrev pub row_of : Keyed → List ℕ → Row
 row_of k b = record { formed = row_form k b; high = be (part 1 8 b); low = be (part 9 8 b); page = page_in k b; lsn = lsn_in k b }
 
 -- how the numbers of two records stand, one after the other
-abbrev pub row_order : Row → Row → Order
+abbrev pub row_order : Row → Row → Ordering
 row_order x y = then_by (order x.high y.high) (then_by (order x.low y.low) (then_by (order x.page y.page) (order x.lsn y.lsn)))

@@ -5,7 +5,6 @@ use frames::BytesAnswer;
 use pageset::{PageSet, Window, sets};
 use plainframes::asked;
 use plainset::tally::Tally;
-use plainset::{said, tally};
 
 // A set of one window with a count of windows.
 fn window(len: usize, index: u32, mask: u64) -> PageSet {
@@ -14,18 +13,17 @@ fn window(len: usize, index: u32, mask: u64) -> PageSet {
     PageSet { len, windows }
 }
 
-// Page 2 in a segment whose frame k is given; the first `len` frames count.
-fn made(pages: PageSet, len: usize, k: usize, size: u64, last: u32) -> SegmentIdx {
+// Page 2 in a segment with a frame up to page 9, and maybe another frame at a place; the first `len` frames count.
+fn made(pages: PageSet, len: usize, other: Option<(usize, Frame)>) -> SegmentIdx {
     let mut frames = commit::no_frames();
     frames[0] = Frame {
         size: 1,
         last: PageIdx(9),
     };
-    if k < 16 {
-        frames[k] = Frame {
-            size,
-            last: PageIdx(last),
-        };
+    if let Some((k, frame)) = other {
+        if let Some(place) = frames.get_mut(k) {
+            *place = frame;
+        }
     }
     SegmentIdx::new([1u8; 16], pages).with_frames(len, frames)
 }
@@ -40,52 +38,65 @@ fn number(a: BytesAnswer) -> u32 {
 }
 
 // The frame of a page and its bytes: a number.
-fn page(t: Tally, s: SegmentIdx, page: u32, code: u32) -> Tally {
+fn page(tally: &mut Tally, s: SegmentIdx, page: u32, code: u32) {
     let got = frames::frame_for(s, PageIdx(page));
     let place = frames::frame_place(s, PageIdx(page), 100);
     let part = frames::frame_bytes(s, PageIdx(page), b"lent bytes");
-    let t1 = tally::same_u32(asked::none(t, got, code), number(place), code);
-    tally::same(t1, part.len() as u64, 0)
+    asked::none(tally, got, code);
+    tally.same(number(place), code);
+    tally.same(part.len(), 0);
 }
 
 // The frame list: a number, no frame, and zeros at both ends.
-fn list(t: Tally, s: SegmentIdx) -> Tally {
+fn list(tally: &mut Tally, s: SegmentIdx) {
     let got = frames::frame_list(s);
     let held = got.frames;
-    let t1 = tally::same(tally::same_u32(t, got.code, 3), got.len as u64, 0);
-    asked::no_range(asked::no_range(t1, held[0]), held[15])
+    tally.same(got.code, 3);
+    tally.same(got.len, 0);
+    asked::no_range(tally, held[0]);
+    asked::no_range(tally, held[15]);
 }
 
 // Every call on a segment that is not in form: 3, and 1 for page 0 before that.
-fn refused(t: Tally, s: SegmentIdx) -> Tally {
-    let t1 = tally::same(t, said::truth(frames::frames_ok(s)), 0);
-    let t2 = page(page(list(t1, s), s, 2, 3), s, 1, 3);
-    page(t2, s, 0, 1)
+fn refused(tally: &mut Tally, s: SegmentIdx) {
+    tally.same(frames::frames_ok(s), false);
+    list(tally, s);
+    page(tally, s, 2, 3);
+    page(tally, s, 1, 3);
+    page(tally, s, 0, 1);
+}
+
+// The set of page 2, in normal form.
+fn sound() -> PageSet {
+    window(1, 0, 4)
 }
 
 // Segments: a frame past the count, of a size or a last page alone; a count of none beside a frame; page 0; a count of windows that is too large.
-fn segment(k: u64) -> SegmentIdx {
-    let set = window(1, 0, 4);
-    match k {
-        0 => made(set, 1, 1, 1, 0),
-        1 => made(set, 1, 15, 0, 1),
-        2 => made(set, 0, 16, 0, 0),
-        3 => made(window(1, 0, 5), 1, 16, 0, 0),
-        4 => made(window(2, 0, 4), 1, 16, 0, 0),
-        5 => made(window(33, 0, 4), 17, 16, 0, 0),
-        _ => made(set, 1, 16, 0, 0),
-    }
+fn broken() -> [SegmentIdx; 6] {
+    let sized = Frame {
+        size: 1,
+        last: PageIdx(0),
+    };
+    let ended = Frame {
+        size: 0,
+        last: PageIdx(1),
+    };
+    [
+        made(sound(), 1, Some((1, sized))),
+        made(sound(), 1, Some((15, ended))),
+        made(sound(), 0, None),
+        made(window(1, 0, 5), 1, None),
+        made(window(2, 0, 4), 1, None),
+        made(window(33, 0, 4), 17, None),
+    ]
 }
 
 // All of these; and the segment that they were made from, which is in form.
-fn segments(t: Tally) -> Tally {
-    let mut sum = tally::same(t, said::truth(frames::frames_ok(segment(6))), 1);
-    let mut k: u64 = 0;
-    while k < 6 {
-        sum = refused(sum, segment(k));
-        k += 1;
+fn segments(tally: &mut Tally) {
+    tally.same(frames::frames_ok(made(sound(), 1, None)), true);
+    for s in broken() {
+        refused(tally, s);
     }
-    sum
 }
 
 // A range with a set.
@@ -99,35 +110,30 @@ fn range(start: u64, end: u64, pages: PageSet) -> SegmentRange {
 }
 
 // Two ranges, either way round: a number.
-fn joined(t: Tally, a: SegmentRange, b: SegmentRange, code: u32) -> Tally {
-    let t1 = asked::none(t, ranges::join(a, b), code);
-    asked::none(t1, ranges::join(b, a), code)
+fn joined(tally: &mut Tally, a: SegmentRange, b: SegmentRange, code: u32) {
+    asked::none(tally, ranges::join(a, b), code);
+    asked::none(tally, ranges::join(b, a), code);
 }
 
-// A set that is not in normal form: page 0, no page in a window, a window past the count.
-fn bad(k: u64) -> PageSet {
-    match k {
-        0 => window(1, 0, 5),
-        1 => window(1, 5, 0),
-        _ => window(0, 0, 4),
-    }
+// Sets that are not in normal form: page 0, no page in a window, a window past the count.
+fn bad() -> [PageSet; 3] {
+    [window(1, 0, 5), window(1, 5, 0), window(0, 0, 4)]
 }
 
 // It is 3, also where the ranges do not touch; and a reversed range is 2 before that.
-fn ranges_of(t: Tally, pages: PageSet) -> Tally {
+fn ranges_of(tally: &mut Tally, pages: PageSet) {
     let good = range(4, 8, sets::empty());
-    let t1 = joined(t, range(8, 9, pages), good, 3);
-    let t2 = joined(t1, range(20, 21, pages), good, 3);
-    joined(t2, range(9, 8, pages), good, 2)
+    joined(tally, range(8, 9, pages), good, 3);
+    joined(tally, range(20, 21, pages), good, 3);
+    joined(tally, range(9, 8, pages), good, 2);
 }
 
 // All of them.
 pub fn all() -> Tally {
-    let mut sum = segments(tally::none());
-    let mut k: u64 = 0;
-    while k < 3 {
-        sum = ranges_of(sum, bad(k));
-        k += 1;
+    let mut tally = Tally::default();
+    segments(&mut tally);
+    for pages in bad() {
+        ranges_of(&mut tally, pages);
     }
-    sum
+    tally
 }

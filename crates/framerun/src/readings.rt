@@ -1,58 +1,56 @@
 // The bench readings P8 and P9, by their numbers: set {2,3,5,9}, frames (size 100, last 3), (50, 9).
 use basics::pageidx::PageIdx;
-use commit::SegmentRange;
 use plainframes::plain::Plain;
 use plainframes::{asked, plain};
+use plainset::held;
 use plainset::tally::Tally;
-use plainset::{held, tally};
 
 // The segment of the readings.
 pub fn reading() -> Plain {
-    let set = held::built(&[2u32, 3, 5, 9]);
-    plain::with(plain::with(plain::bare(set), 100, 3), 50, 9)
+    Plain::bare(held::built(&[2u32, 3, 5, 9]))
+        .with(100, 3)
+        .with(50, 9)
 }
 
 // The frame of a page: its bytes and its pages.
-fn frame(t: Tally, page: u32, start: u64, end: u64, list: &[u32]) -> Tally {
-    let got = frames::frame_for(plain::segment(reading()), PageIdx(page));
+fn frame(tally: &mut Tally, page: u32, start: u64, end: u64, list: &[u32]) {
+    let got = frames::frame_for(reading().segment(), PageIdx(page));
     let r = got.range;
-    let t1 = tally::same_u32(t, got.code, 0);
-    asked::range(t1, r, plain::sid(), start, end, list)
+    tally.same(got.code, 0);
+    asked::range(tally, r, plain::sid(), start, end, list);
 }
 
 // A page without a frame.
-fn no_frame(t: Tally, page: u32) -> Tally {
-    let got = frames::frame_for(plain::segment(reading()), PageIdx(page));
-    asked::none(t, got, 0)
+fn no_frame(tally: &mut Tally, page: u32) {
+    let got = frames::frame_for(reading().segment(), PageIdx(page));
+    asked::none(tally, got, 0);
 }
 
 // The two frames of the list.
-fn listed(t: Tally) -> Tally {
-    let got = frames::frame_list(plain::segment(reading()));
+fn listed(tally: &mut Tally) {
+    let got = frames::frame_list(reading().segment());
     let held = got.frames;
-    let first: SegmentRange = held[0];
-    let second: SegmentRange = held[1];
-    let t1 = tally::same(tally::same_u32(t, got.code, 0), got.len as u64, 2);
-    let t2 = asked::range(t1, first, plain::sid(), 0, 100, &[2u32, 3]);
-    asked::range(t2, second, plain::sid(), 100, 150, &[5u32, 9])
+    tally.same(got.code, 0);
+    tally.same(got.len, 2);
+    asked::range(tally, held[0], plain::sid(), 0, 100, &[2u32, 3]);
+    asked::range(tally, held[1], plain::sid(), 100, 150, &[5u32, 9]);
 }
 
 // P8: bytes 0 to 100 exclusive with {2,3}, 100 to 150 with {5,9}. P9: page 4 has no frame; nor has any other page that is not in the set.
-fn page(t: Tally, page: u32) -> Tally {
+fn page(tally: &mut Tally, page: u32) {
     match page {
-        2 | 3 => frame(t, page, 0, 100, &[2u32, 3]),
-        5 | 9 => frame(t, page, 100, 150, &[5u32, 9]),
-        _ => no_frame(t, page),
+        2 | 3 => frame(tally, page, 0, 100, &[2u32, 3]),
+        5 | 9 => frame(tally, page, 100, 150, &[5u32, 9]),
+        _ => no_frame(tally, page),
     }
 }
 
 // Both readings, by the list and page by page.
 pub fn all() -> Tally {
-    let mut sum = listed(tally::none());
-    let mut p: u32 = 1;
-    while p < 12 {
-        sum = page(sum, p);
-        p += 1;
+    let mut tally = Tally::default();
+    listed(&mut tally);
+    for p in 1..12 {
+        page(&mut tally, p);
     }
-    sum
+    tally
 }

@@ -1,22 +1,18 @@
 // Random segments and random ranges.
 use crate::swept;
+use plainframes::joins;
 use plainframes::joins::Piece;
 use plainframes::plain::Plain;
-use plainframes::{joins, plain};
 use plainset::tally::Tally;
-use plainset::{held, random, tally};
-use std::num;
+use plainset::{held, random};
 
 // A random size: a few bytes, none, or a great part of 2^64.
 fn size(seed: u64) -> u64 {
-    let kind = random::below(random::pick(seed, 1), 24);
-    if kind == 0 {
-        return 9223372036854775808;
+    match random::below(random::pick(seed, 1), 24) {
+        0 => 9223372036854775808,
+        1 => 4611686018427387904,
+        _ => random::below(random::pick(seed, 2), 9),
     }
-    if kind == 1 {
-        return 4611686018427387904;
-    }
-    random::below(random::pick(seed, 2), 9)
 }
 
 // A random last page: some way past the page before, or now and then not past it.
@@ -24,45 +20,40 @@ fn last(seed: u64, before: u64, spread: u64) -> u64 {
     if random::below(random::pick(seed, 3), 40) == 0 {
         return before;
     }
-    num::wrapping_add_u64(
-        num::wrapping_add_u64(before, 1),
-        random::below(random::pick(seed, 4), spread),
-    )
+    before
+        .wrapping_add(1)
+        .wrapping_add(random::below(random::pick(seed, 4), spread))
 }
 
 // A segment with random frames near a base.
-fn framed(p: Plain, seed: u64, base: u64) -> Plain {
+fn framed(bare: Plain, seed: u64, base: u64) -> Plain {
     let n = random::below(random::pick(seed, 5), 17);
     let spread = random::spread(seed) / 6;
-    let mut out = p;
+    let mut p = bare;
     let mut page = base % 4294967296;
-    let mut k: u64 = 0;
-    while k < n {
-        page = last(random::pick(seed, k), page, spread);
-        let more = plain::with(out, size(random::pick(seed, k)), random::clipped(page));
-        out = more;
-        k += 1;
+    for k in 0..n {
+        let seed = random::pick(seed, k);
+        page = last(seed, page, spread);
+        p = p.with(size(seed), random::clipped(page));
     }
-    out
+    p
 }
 
 // One round of frames.
-fn round(t: Tally, seed: u64) -> Tally {
+fn round(tally: &mut Tally, seed: u64) {
     let base = random::base(seed);
     let draws = random::draws(random::pick(seed, 1), base);
-    let bare = plain::bare(held::built(&draws));
-    swept::all(t, framed(bare, random::pick(seed, 2), base))
+    let bare = Plain::bare(held::built(&draws));
+    swept::all(tally, &framed(bare, random::pick(seed, 2), base));
 }
 
 // All rounds of frames.
 pub fn segments() -> Tally {
-    let mut sum = tally::none();
-    let mut k: u64 = 0;
-    while k < 120 {
-        sum = round(sum, random::pick(20250309, k));
-        k += 1;
+    let mut tally = Tally::default();
+    for k in 0..120 {
+        round(&mut tally, random::pick(20250309, k));
     }
-    sum
+    tally
 }
 
 // A random piece, of one of two segments.
@@ -86,22 +77,18 @@ fn sid(kind: u64) -> [u8; 16] {
 }
 
 // One round of joins.
-fn joined(t: Tally, seed: u64) -> Tally {
+fn joined(tally: &mut Tally, seed: u64) {
     let base = random::base(seed);
-    joins::pair(
-        t,
-        piece(random::pick(seed, 6), base),
-        piece(random::pick(seed, 7), base),
-    )
+    let a = piece(random::pick(seed, 6), base);
+    let b = piece(random::pick(seed, 7), base);
+    joins::pair(tally, &a, &b);
 }
 
 // All rounds of joins.
 pub fn joins() -> Tally {
-    let mut sum = tally::none();
-    let mut k: u64 = 0;
-    while k < 300 {
-        sum = joined(sum, random::pick(20250310, k));
-        k += 1;
+    let mut tally = Tally::default();
+    for k in 0..300 {
+        joined(&mut tally, random::pick(20250310, k));
     }
-    sum
+    tally
 }

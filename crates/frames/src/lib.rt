@@ -11,7 +11,6 @@ ghost use Rattle.frames.specs.Places.{run_part, place_says, Placed, bytes_says, 
 ghost use Rattle.frames.specs.Parts.{Filled, Lists};
 ghost use Rattle.frames.specs.Rules.{no_frames, frames_ok, list_rule, frame_rule, bytes_rule, part_bytes, cut_bytes};
 
-use basics::page_count::MaybePage;
 use basics::pageidx::PageIdx;
 use commit::{RangeAnswer, SegmentIdx, SegmentRange, found_range, no_range};
 use pageset::{PageSet, form, sets};
@@ -55,8 +54,8 @@ fn before_first(pages: PageSet) -> u32
 {
     let first = sets::first(pages);
     match first {
-        MaybePage::At(p) => p.0 - 1,
-        MaybePage::Nothing => 0,
+        Some(p) => p.0 - 1,
+        None => 0,
     }
 }
 
@@ -66,8 +65,7 @@ fn clear_past(s: SegmentIdx) -> bool
     ensures { result ≡ no_frames (drop s.len s.frames) }
 {
     let fs = s.frames;
-    let mut i: usize = s.len;
-    while i < 16 {
+    for i in s.len..16 {
         let f = fs[i];
         if f.size != 0 {
             return false;
@@ -75,7 +73,6 @@ fn clear_past(s: SegmentIdx) -> bool
         if f.last.0 != 0 {
             return false;
         }
-        i += 1;
     }
     true
 }
@@ -90,9 +87,8 @@ fn in_domain(s: SegmentIdx) -> bool
     let n = s.len;
     let fs = s.frames;
     let mut below = before_first(pages);
-    let mut room: u64 = 18446744073709551615;
-    let mut i: usize = 0;
-    while i < n {
+    let mut room = u64::MAX;
+    for i in 0..n {
         let f = fs[i];
         if f.last.0 <= below {
             return false;
@@ -102,7 +98,6 @@ fn in_domain(s: SegmentIdx) -> bool
         }
         below = f.last.0;
         room -= f.size;
-        i += 1;
     }
     true
 }
@@ -139,8 +134,7 @@ fn locate(s: SegmentIdx, page: PageIdx) -> Place
     let p = page.0;
     let mut below = before_first(pages);
     let mut start: u64 = 0;
-    let mut i: usize = 0;
-    while i < n {
+    for i in 0..n {
         let f = fs[i];
         let end = start + f.size;
         if p <= f.last.0 {
@@ -155,7 +149,6 @@ fn locate(s: SegmentIdx, page: PageIdx) -> Place
         }
         below = f.last.0;
         start = end;
-        i += 1;
     }
     Place::Nothing
 }
@@ -207,8 +200,7 @@ fn all_frames(s: SegmentIdx) -> [SegmentRange; 16]
     let mut frames = [none; 16];
     let mut below = before_first(s.pages);
     let mut start: u64 = 0;
-    let mut i: usize = 0;
-    while i < n {
+    for i in 0..n {
         let f = fs[i];
         let end = start + f.size;
         let first = PageIdx(below + 1);
@@ -222,7 +214,6 @@ fn all_frames(s: SegmentIdx) -> [SegmentRange; 16]
         frames[i] = frame_at(s, run);
         below = f.last.0;
         start = end;
-        i += 1;
     }
     frames
 }

@@ -1,13 +1,13 @@
 -- A gift is what the masks of sorted windows give: those of the windows that the notes know, and of the others what is left without the pages of the earlier commits. Bit by bit the masks have the free
 -- pages, and one set in normal form has just those.
-use Rattle.std.specs.Prelude.{◌≡◌, ℕ, zero, suc, ◌+◌, ◌*◌, ◌^◌, ◌<◌, ◌≤◌, Bool, true, false, not, ◌&&◌, ◌||◌, leb, List, [], ◌∷◌, length, get_or}
+use Rattle.std.specs.Prelude.{◌≡◌, ℕ, zero, suc, ◌+◌, ◌*◌, ◌<◌, ◌≤◌, Bool, true, false, not, ◌&&◌, ◌||◌, List, [], ◌∷◌, length, get_or}
 use mathlib.Core.Path.{refl, sym, ap, ◌∙◌, subst}
 use mathlib.Core.Option.{Option, none, some}
 use mathlib.Core.Bool.{or-false}
 use native.Mathlib.Omega.{arith}
 use borrow.Author.Tests.{leb-true}
 use lib.Bits.{bit_or, or_lt}
-use Rattle.pageset.specs.Sets.{bit, holds, rising, window_forms, normal_form, zero_window}
+use Rattle.pageset.specs.Sets.{bit, holds, normal_form, zero_window}
 use Rattle.pageset.proofs.BitLaws.{bit_or_lem, bit_none}
 use Rattle.rules.specs.Lists.{is_some}
 use Rattle.rules.specs.Records.{Pages, Segment, Commit}
@@ -18,6 +18,7 @@ use Rattle.rules.proofs.TableLaws.{and_fst, and_snd, clash}
 use Rattle.rules.proofs.PageLaws.{holds_empty}
 use Rattle.masks.specs.Masks.{given, more_masks, no_masks}
 use Rattle.masks.proofs.GivenLaws.{more_at, length_more, none_at, none_empty, given_is}
+use Rattle.notes.specs.declared.Notes.{Notes}
 use Rattle.notes.specs.Known.{Known}
 use Rattle.notes.proofs.NoteLaws.{known_same}
 use Rattle.gifts.specs.Held.{held_by, less_all, Small, free, Sorted, AsSorted}
@@ -94,9 +95,9 @@ module _ (count : ℕ) (cs : List Commit) (c : Commit) (e : normal_form (pages_o
   pub missing_gift : (left : List ℕ) → length left ≡ 32 → given (pages_of c.segment) left ≡ gift count cs c
   missing_gift left l = let n = no_windows c.segment z in known_gift count cs c e left left l l (λ i h. absurd (omega arith)) (λ i h. absurd (omega arith)) (λ i h. absurd (omega arith)) (ap (λ (m : ℕ). no_masks m left) n ∙ none_masks left)
 
-  pub missing_known : (tags masks marks : List ℕ) → Known (held_by cs) tags masks marks → Known (held_by (c ∷ cs)) tags masks marks
+  pub missing_known : (m : Notes) → Known (held_by cs) m → Known (held_by (c ∷ cs)) m
   unfolding held_by
-  missing_known tags masks marks k = known_same (held_by cs) (held_by (c ∷ cs)) tags masks marks (λ p. sym (ap (λ (b : Bool). held_by cs p || b) (none_held p) ∙ or-false (held_by cs p))) k
+  missing_known m k = known_same (held_by cs) (held_by (c ∷ cs)) m (λ p. sym (ap (λ (b : Bool). held_by cs p || b) (none_held p) ∙ or-false (held_by cs p))) k
     where
       nil : (o : Option Segment) → is_some o ≡ false → pages_of o ≡ []
       nil none q = refl
@@ -108,18 +109,18 @@ module _ (count : ℕ) (cs : List Commit) (c : Commit) (e : normal_form (pages_o
 -- ---- a gift made: whether it has a page, its masks, and the notes
 
 module _ (count : ℕ) (cs : List Commit) (c : Commit) (e : normal_form (pages_of c.segment) ≡ true) where
-  abbrev Made : Bool → List ℕ → List ℕ → List ℕ → List ℕ → Type 0
-  Made r left tags masks marks = (r ≡ not (is_empty (gift count cs c))) × ((given (pages_of c.segment) left ≡ gift count cs c) × Known (held_by (c ∷ cs)) tags masks marks)
+  abbrev Made : Bool → List ℕ → Notes → Type 0
+  Made r left notes = (r ≡ not (is_empty (gift count cs c))) × ((given (pages_of c.segment) left ≡ gift count cs c) × Known (held_by (c ∷ cs)) notes)
 
-  pub made_none : is_some c.segment ≡ false → (left tags masks marks : List ℕ) → length left ≡ 32 → Known (held_by cs) tags masks marks → Made false left tags masks marks
-  made_none z left tags masks marks l k =
+  pub made_none : is_some c.segment ≡ false → (left : List ℕ) (notes : Notes) → length left ≡ 32 → Known (held_by cs) notes → Made false left notes
+  made_none z left notes l k =
       let g = missing_gift count cs c e z left l in
       let n = no_windows c.segment z in
-      (ap not (sym (none_masks left) ∙ ap (λ (m : ℕ). no_masks m left) (sym n)) ∙ some_is count cs c e left (length (pages_of c.segment)) (gift count cs c) l refl g, (g, missing_known count cs c e z tags masks marks k))
+      (ap not (sym (none_masks left) ∙ ap (λ (m : ℕ). no_masks m left) (sym n)) ∙ some_is count cs c e left (length (pages_of c.segment)) (gift count cs c) l refl g, (g, missing_known count cs c e z notes k))
 
   -- the windows of the set as they stand, sorted
-  module _ (us : Pages) (q : pages_of c.segment ≡ us) (n : ℕ) (many : length us ≡ n) (tags masks marks tags' masks' marks' left ask : List ℕ) (l : length left ≡ 32) (m : length ask ≡ 32)
-      (sorts : AsSorted us count tags masks marks tags' masks' marks' left ask) (sl : Small us left) (sa : Small us ask) (k : Known (held_by cs) tags masks marks) where
+  module _ (us : Pages) (q : pages_of c.segment ≡ us) (n : ℕ) (many : length us ≡ n) (notes notes' : Notes) (left ask : List ℕ) (l : length left ≡ 32) (m : length ask ≡ 32)
+      (sorts : AsSorted us count notes notes' left ask) (sl : Small us left) (sa : Small us ask) (k : Known (held_by cs) notes) where
     abbrev own : Pages
     own = pages_of c.segment
 
@@ -129,9 +130,9 @@ module _ (count : ℕ) (cs : List Commit) (c : Commit) (e : normal_form (pages_o
     sorted : Sorted (held_by cs) count own left ask
     sorted = subst (λ (x : Pages). Sorted (held_by cs) count x left ask) (sym q) (sorts (held_by cs) k).0
 
-    noted : Known (held_by (c ∷ cs)) tags' masks' marks'
+    noted : Known (held_by (c ∷ cs)) notes'
     unfolding held_by
-    noted = known_same (λ p. held_by cs p || holds us p) (held_by (c ∷ cs)) tags' masks' marks' (λ p. ap (λ (x : Pages). held_by cs p || holds x p) (sym q)) (sorts (held_by cs) k).1
+    noted = known_same (λ p. held_by cs p || holds us p) (held_by (c ∷ cs)) notes' (λ p. ap (λ (x : Pages). held_by cs p || holds x p) (sym q)) (sorts (held_by cs) k).1
 
     left_small : Small own left
     left_small = subst (λ (x : Pages). Small x left) (sym q) sl
@@ -139,12 +140,12 @@ module _ (count : ℕ) (cs : List Commit) (c : Commit) (e : normal_form (pages_o
     ask_small : Small own ask
     ask_small = subst (λ (x : Pages). Small x ask) (sym q) sa
 
-    pub made_known : no_masks n ask ≡ true → (x : Bool) → x ≡ no_masks n left → Made (not x) left tags' masks' marks'
+    pub made_known : no_masks n ask ≡ true → (x : Bool) → x ≡ no_masks n left → Made (not x) left notes'
     made_known z x y =
         let g = known_gift count cs c e left ask l m sorted left_small ask_small (ap (λ (h : ℕ). no_masks h ask) (sym count_is) ∙ z) in
         (ap not y ∙ some_is count cs c e left n (gift count cs c) l count_is g, (g, noted))
 
-    pub made_asked : (ms : List ℕ) → ms ≡ more_masks n left (less_all us cs ask) → (x : Bool) → x ≡ not (no_masks n ms) → Made x ms tags' masks' marks'
+    pub made_asked : (ms : List ℕ) → ms ≡ more_masks n left (less_all us cs ask) → (x : Bool) → x ≡ not (no_masks n ms) → Made x ms notes'
     made_asked ms h x y =
         let g = asked_gift count cs c e left ask l m sorted left_small ask_small (less_all us cs ask) ms (ap (λ (w : Pages). less_all w cs ask) (sym q)) (h ∙ ap (λ (d : ℕ). more_masks d left (less_all us cs ask)) count_is) in
         (y ∙ some_is count cs c e ms n (gift count cs c) (ap length h ∙ length_more n left (less_all us cs ask) ∙ l) count_is g, (g, noted))

@@ -1,5 +1,6 @@
 -- The pages that earlier commits hold, and what is left of a set without them: a gift is the pages of its commit's set, up to the page count, that are not held. Masks less the pages of all
 -- earlier commits are, bit by bit, the masks less the held pages; a commit whose windows lie apart takes nothing from them, and from masks without a page nothing can be taken.
+use Rattle.std.proofs.Common.{Option as Maybe, Some, None}
 use Rattle.std.specs.Prelude.{◌≡◌, ℕ, zero, suc, ◌+◌, ◌*◌, ◌/◌, ◌%◌, ◌^◌, ◌<◌, ◌≤◌, Bool, true, false, not, ◌&&◌, ◌||◌, eqb, ltb, leb, List, [], ◌∷◌, length, get_or}
 use mathlib.Core.Path.{refl, sym, ap, ap₂, ◌∙◌, subst}
 use mathlib.Core.Option.{Option, none, some}
@@ -27,12 +28,11 @@ use Rattle.masks.specs.Masks.{less_masks, no_masks}
 use Rattle.masks.proofs.GivenLaws.{less_at, length_less, holds_at_lem}
 use Rattle.table.specs.Table.{count_of}
 use Rattle.layout.specs.Tables.{commits_ok}
+use Rattle.notes.specs.declared.Notes.{Notes}
 use Rattle.notes.specs.Known.{Known}
 use Rattle.masks.proofs.MaskLaws.{without_none}
 use Rattle.rows.specs.Lookups.{nth}
 use Rattle.commits.specs.Places.{commit_at}
-use Rattle.commits.specs.declared.Place.{Place}
-use Rattle.commits.specs.declared.Place.TheVariants.{At, Missing}
 use Rattle.gifts.specs.Paths.{place_at, Below, commits_at, more, before}
 use Rattle.gifts.specs.Held.{Clear, held_by, less_all, Small, free}
 use Rattle.gifts.proofs.SetLaws.{row_normal, not_taken_normal}
@@ -157,11 +157,11 @@ module _ (ws : Pages) where
   -- ---- commit by commit
 
   module _ (t ps : List ℕ) (ms : List ℕ) where
-    pub all_next : (j i : ℕ) → place_at j ps ≡ At i → less_all ws (before (j + 1) (commits_at t ps)) ms ≡ less_masks ws (pages_of (commit_at t i).segment) (less_all ws (before j (commits_at t ps)) ms)
+    pub all_next : (j i : ℕ) → place_at j ps ≡ Some i → less_all ws (before (j + 1) (commits_at t ps)) ms ≡ less_masks ws (pages_of (commit_at t i).segment) (less_all ws (before j (commits_at t ps)) ms)
     unfolding less_all
     all_next j i e = ap (λ (cs : List Commit). less_all ws cs ms) (before_next t ps j i e)
 
-    pub all_end : (j k : ℕ) → place_at j ps ≡ Missing → j ≤ k → less_all ws (before j (commits_at t ps)) ms ≡ less_all ws (before k (commits_at t ps)) ms
+    pub all_end : (j k : ℕ) → place_at j ps ≡ None → j ≤ k → less_all ws (before j (commits_at t ps)) ms ≡ less_all ws (before k (commits_at t ps)) ms
     all_end j k e h = ap (λ (cs : List Commit). less_all ws cs ms) (sym (before_all t ps j k e h))
 
     pub all_empty : (j k : ℕ) → no_masks (length ws) (less_all ws (before j (commits_at t ps)) ms) ≡ true → j ≤ k → less_all ws (before j (commits_at t ps)) ms ≡ less_all ws (before k (commits_at t ps)) ms
@@ -198,13 +198,13 @@ held_past t ps ok inside (suc k) p h = go (place_at k ps) refl (held_past t ps o
     z : suc k ≡ k + 1
     z = omega arith
 
-    go : (x : Place) → place_at k ps ≡ x → held_by (before k (commits_at t ps)) p ≡ false → held_by (before (suc k) (commits_at t ps)) p ≡ false
-    go Missing e r = ap (λ (cs : List Commit). held_by cs p) (before_all t ps k (suc k) e (omega arith)) ∙ r
-    go (At i) e r =
+    go : (x : Maybe ℕ) → place_at k ps ≡ x → held_by (before k (commits_at t ps)) p ≡ false → held_by (before (suc k) (commits_at t ps)) p ≡ false
+    go None e r = ap (λ (cs : List Commit). held_by cs p) (before_all t ps k (suc k) e (omega arith)) ∙ r
+    go (Some i) e r =
         ap (λ (n : ℕ). held_by (before n (commits_at t ps)) p) z
         ∙ ap (λ (cs : List Commit). held_by cs p) (before_next t ps k i e)
         ∙ ap₂ (λ (x y : Bool). x || y) r (none_past (pages_of (commit_at t i).segment) p (row_normal t ok i (place_below (count_of t) k i ps inside e)) h)
 
 -- notes of one commit more
-pub known_next : (t ps : List ℕ) (k i : ℕ) → place_at k ps ≡ At i → (tags masks marks : List ℕ) → Known (held_by (commit_at t i ∷ before k (commits_at t ps))) tags masks marks → Known (held_by (before (k + 1) (commits_at t ps))) tags masks marks
-known_next t ps k i p tags masks marks h = subst (λ (cs : List Commit). Known (held_by cs) tags masks marks) (sym (before_next t ps k i p)) h
+pub known_next : (t ps : List ℕ) (k i : ℕ) → place_at k ps ≡ Some i → (n : Notes) → Known (held_by (commit_at t i ∷ before k (commits_at t ps))) n → Known (held_by (before (k + 1) (commits_at t ps))) n
+known_next t ps k i p n h = subst (λ (cs : List Commit). Known (held_by cs) n) (sym (before_next t ps k i p)) h

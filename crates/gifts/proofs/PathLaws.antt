@@ -1,5 +1,6 @@
 -- The places of a path. A run's places are numbers in a row, and what stands there is the stretch of the table that is the range's commits; runs one after another are the
 -- ranges in path order. The place of a number is found run by run: either within the run, or past its size in those that are left.
+use Rattle.std.proofs.Common.{Some}
 use Rattle.std.specs.Prelude.{◌≡◌, ℕ, zero, suc, ◌+◌, ◌-◌, ◌*◌, ◌<◌, ◌≤◌, true, false, leb, List, [], ◌∷◌, ◌++◌, map, length, get_or, take, drop, replicate}
 use mathlib.Core.Path.{refl, sym, ap, ap₂, ◌∙◌, subst}
 use mathlib.Core.List.{append-nil, append_assoc}
@@ -26,7 +27,6 @@ use Rattle.rows.proofs.Rows.{formed_well}
 use Rattle.rows.proofs.Finds.{stretch_end, stretch_next}
 use Rattle.rows.proofs.Tables.{commits}
 use Rattle.commits.specs.Places.{commit_at, RunOfRange}
-use Rattle.commits.specs.declared.Place.TheVariants.{At}
 use Rattle.gifts.specs.declared.paths.Path.{Path}
 use Rattle.gifts.specs.contracts.paths.Path.{the_type}
 use Rattle.gifts.specs.Paths.{run_of, no_run, runs_of, places_in, place_at, Below, commits_at, PathOf}
@@ -37,11 +37,11 @@ runs_8 p vs g = g.1.1.0.1.0.1
 
 -- ---- numbers in a row
 
-place_in : (a n k : ℕ) (ps : List ℕ) → k < n → place_at k (numbers a n ++ ps) ≡ At (a + k)
+place_in : (a n k : ℕ) (ps : List ℕ) → k < n → place_at k (numbers a n ++ ps) ≡ Some (a + k)
 unfolding numbers
 place_in a zero k ps h = absurd (omega arith)
-place_in a (suc n) zero ps h = let e : a ≡ a + 0 = omega arith in ap At e
-place_in a (suc n) (suc k) ps h = let e : suc a + k ≡ a + suc k = omega arith in place_in (suc a) n k ps (omega arith) ∙ ap At e
+place_in a (suc n) zero ps h = let e : a ≡ a + 0 = omega arith in ap Some e
+place_in a (suc n) (suc k) ps h = let e : suc a + k ≡ a + suc k = omega arith in place_in (suc a) n k ps (omega arith) ∙ ap Some e
 
 place_past : (a n k : ℕ) (ps : List ℕ) → n ≤ k → place_at k (numbers a n ++ ps) ≡ place_at (k - n) ps
 unfolding numbers
@@ -75,7 +75,7 @@ module _ (runs : List Run) (i : ℕ) where
       shifted = here ∙ ap (λ (m : ℕ). numbers (get_or runs i no_run).from m ++ places_in (drop (i + 1) runs)) (sym e)
 
       -- within the run, or past it
-      pub run_holds : k < n → place_at k (places_in (drop i runs)) ≡ At ((get_or runs i no_run).from + k)
+      pub run_holds : k < n → place_at k (places_in (drop i runs)) ≡ Some ((get_or runs i no_run).from + k)
       run_holds l = ap (place_at k) shifted ∙ place_in (get_or runs i no_run).from n k (places_in (drop (i + 1) runs)) l
 
       pub run_passed : n ≤ k → place_at k (places_in (drop i runs)) ≡ place_at (k - n) (places_in (drop (i + 1) runs))

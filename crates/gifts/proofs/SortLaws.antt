@@ -1,6 +1,6 @@
 -- A window sorted: if the notes know it, its pages up to the count without those that are held; else all of them are to be asked for. A window's index is that of no other window of its set,
 -- so that noting the windows one after another notes the set, and what is told of a window is what was held before the set was met.
-use Rattle.std.specs.Prelude.{◌≡◌, ℕ, zero, suc, ◌+◌, ◌-◌, ◌*◌, ◌/◌, ◌%◌, ◌^◌, ◌<◌, ◌≤◌, Bool, true, false, not, ◌&&◌, ◌||◌, eqb, leb, List, [], ◌∷◌, length, get_or, take, set}
+use Rattle.std.specs.Prelude.{◌≡◌, ℕ, zero, suc, ◌+◌, ◌-◌, ◌*◌, ◌/◌, ◌%◌, ◌^◌, ◌<◌, ◌≤◌, Bool, true, false, not, ◌&&◌, ◌||◌, eqb, leb, List, [], ◌∷◌, length, get_or, take, set, Option, Some, None}
 use mathlib.Core.Path.{refl, sym, ap, ap₂, ◌∙◌, subst}
 use mathlib.Core.Bool.{or-false}
 use native.Mathlib.Omega.{arith}
@@ -18,7 +18,7 @@ use Rattle.rules.specs.Pages.{up_to}
 use Rattle.rules.proofs.TableLaws.{cases, and_snd}
 use Rattle.rules.proofs.PageLaws.{bit_up_to, holds_empty}
 use Rattle.masks.proofs.GivenLaws.{holds_at_lem}
-use Rattle.notes.specs.declared.Told.{Told}
+use Rattle.notes.specs.declared.Notes.{Notes}
 use Rattle.notes.specs.Known.{Of, Known, and_held, AsNoted}
 use Rattle.notes.proofs.NoteLaws.{known_same}
 use Rattle.gifts.specs.Held.{free, Small, SortedAt, AsSorted}
@@ -69,10 +69,10 @@ module _ (ws : Pages) (up : rising 0 ws ≡ true) (i : ℕ) (h : i < length ws) 
   or_assoc true b c = refl
   or_assoc false b c = refl
 
-  pub noted_next : (tags masks marks : List ℕ) → Known (and_held (met i) w.index w.mask) tags masks marks → Known (met (i + 1)) tags masks marks
-  noted_next tags masks marks k =
+  pub noted_next : (n : Notes) → Known (and_held (met i) w.index w.mask) n → Known (met (i + 1)) n
+  noted_next n k =
       let z : i + 1 ≡ suc i = omega arith in
-      known_same (and_held (met i) w.index w.mask) (met (i + 1)) tags masks marks
+      known_same (and_held (met i) w.index w.mask) (met (i + 1)) n
       (λ p. or_assoc (held p) (holds (take i ws) p) (eqb w.index (p / 64) && bit w.mask (p % 64)) ∙ ap (λ (b : Bool). held p || b) (one_more 0 ws i p up h ∙ ap (λ (n : ℕ). holds (take n ws) p) (sym z)))
       k
 
@@ -125,67 +125,63 @@ small_next i ms x s h was j g = go (ℕ_discrete j i)
 -- ---- the loop
 
 -- i windows are sorted, and noted
-pub record Sorting (ws : Pages) (count : ℕ) (tags₀ masks₀ marks₀ tags masks marks left ask : List ℕ) (i : ℕ) : Type 0 where
-  pub lengths : (length tags ≡ 64) × (length masks ≡ 64) × (length marks ≡ 64)
+pub record Sorting (ws : Pages) (count : ℕ) (n₀ n : Notes) (left ask : List ℕ) (i : ℕ) : Type 0 where
   pub places : (length left ≡ 32) × (length ask ≡ 32)
-  pub sorted : (held : ℕ → Bool) → Known held tags₀ masks₀ marks₀ → ((j : ℕ) → j < i → SortedAt held count ws left ask j) × Known (λ p. held p || holds (take i ws) p) tags masks marks
+  pub sorted : (held : ℕ → Bool) → Known held n₀ → ((j : ℕ) → j < i → SortedAt held count ws left ask j) × Known (λ p. held p || holds (take i ws) p) n
   pub small : ((j : ℕ) → j < i → get_or left j 0 < 2 ^ 64) × ((j : ℕ) → j < i → get_or ask j 0 < 2 ^ 64)
 
-module _ (ws : Pages) (count : ℕ) (tags₀ masks₀ marks₀ : List ℕ) where
-  pub sorting_start : (left ask : List ℕ) → (length tags₀ ≡ 64) × (length masks₀ ≡ 64) × (length marks₀ ≡ 64) → (length left ≡ 32) × (length ask ≡ 32)
-      → Sorting ws count tags₀ masks₀ marks₀ tags₀ masks₀ marks₀ left ask 0
-  sorting_start left ask l m = record {
-    lengths = l;
+module _ (ws : Pages) (count : ℕ) (n₀ : Notes) where
+  pub sorting_start : (left ask : List ℕ) → (length left ≡ 32) × (length ask ≡ 32) → Sorting ws count n₀ n₀ left ask 0
+  sorting_start left ask m = record {
     places = m;
-    sorted = λ held k. (λ j h. absurd (omega arith), known_same held (λ p. held p || holds (take 0 ws) p) tags₀ masks₀ marks₀ (λ p. sym (ap (λ (b : Bool). held p || b) (holds_empty p) ∙ or-false (held p))) k);
+    sorted = λ held k. (λ j h. absurd (omega arith), known_same held (λ p. held p || holds (take 0 ws) p) n₀ (λ p. sym (ap (λ (b : Bool). held p || b) (holds_empty p) ∙ or-false (held p))) k);
     small = (λ j h. absurd (omega arith), λ j h. absurd (omega arith));
   }
 
-  module _ (tags masks marks left ask : List ℕ) (i : ℕ) (s : Sorting ws count tags₀ masks₀ marks₀ tags masks marks left ask i) where
-    pub sorting_end : i ≡ length ws → AsSorted ws count tags₀ masks₀ marks₀ tags masks marks left ask × (Small ws left × Small ws ask)
+  module _ (n : Notes) (left ask : List ℕ) (i : ℕ) (s : Sorting ws count n₀ n left ask i) where
+    pub sorting_end : i ≡ length ws → AsSorted ws count n₀ n left ask × (Small ws left × Small ws ask)
     sorting_end e = (
-      λ held k. (λ j h. (s.sorted held k).0 j (omega arith), known_same (λ p. held p || holds (take i ws) p) (λ p. held p || holds ws p) tags masks marks (λ p. ap (λ (l : Pages). held p || holds l p) (ap (λ (n : ℕ). take n ws) e ∙ take-length ws)) (s.sorted held k).1),
+      λ held k. (λ j h. (s.sorted held k).0 j (omega arith), known_same (λ p. held p || holds (take i ws) p) (λ p. held p || holds ws p) n (λ p. ap (λ (l : Pages). held p || holds l p) (ap (λ (m : ℕ). take m ws) e ∙ take-length ws)) (s.sorted held k).1),
       (λ j h. s.small.0 j (omega arith), λ j h. s.small.1 j (omega arith)),
     )
 
     -- the next window: its index x, its mask y, its pages v up to the count, and what the notes tell of it
-    module _ (up : rising 0 ws ≡ true) (h : i < length ws) (few : length ws ≤ 32) (x y v : ℕ) (e : record { index = x; mask = y } ≡ get_or ws i zero_window) (q : v ≡ up_to count x y) (vs : v < 2 ^ 64)
-        (tags' masks' marks' : List ℕ) (l : (length tags' ≡ 64) × (length masks' ≡ 64) × (length marks' ≡ 64)) (r : Told) (noted : AsNoted x y tags masks marks tags' masks' marks' r) where
+    module _ (up : rising 0 ws ≡ true) (h : i < length ws) (few : length ws ≤ 32) (x y v : ℕ) (e : record { index = x; mask = y } ≡ get_or ws i zero_window) (q : v ≡ up_to count x y) (vs : v < 2 ^ 64) (n' : Notes) where
       abbrev here : Window
       here = get_or ws i zero_window
 
       v_is : v ≡ up_to count here.index here.mask
       v_is = q ∙ ap (λ (u : Window). up_to count u.index u.mask) e
 
-      noted_is : AsNoted here.index here.mask tags masks marks tags' masks' marks' r
-      noted_is = subst (λ (u : Window). AsNoted u.index u.mask tags masks marks tags' masks' marks' r) e noted
+      module _ (r : Option ℕ) (noted : AsNoted x y n n' r) where
+        noted_is : AsNoted here.index here.mask n n' r
+        noted_is = subst (λ (u : Window). AsNoted u.index u.mask n n' r) e noted
 
-      then : (held : ℕ → Bool) → Known held tags₀ masks₀ marks₀ → Known (λ p. held p || holds (take (i + 1) ws) p) tags' masks' marks'
-      then held k = noted_next ws up i h held tags' masks' marks' (noted_is (λ p. held p || holds (take i ws) p) (s.sorted held k).1).1
+        then : (held : ℕ → Bool) → Known held n₀ → Known (λ p. held p || holds (take (i + 1) ws) p) n'
+        then held k = noted_next ws up i h held n' (noted_is (λ p. held p || holds (take i ws) p) (s.sorted held k).1).1
 
-      pub sorting_known : r.known ≡ true → r.mask < 2 ^ 64 → Sorting ws count tags₀ masks₀ marks₀ tags' masks' marks' (set left i (bit_and v (18446744073709551615 - r.mask))) (set ask i 0) (i + 1)
-      sorting_known t m = record {
-        lengths = l;
-        places = (length-set left i (bit_and v (18446744073709551615 - r.mask)) ∙ s.places.0, length-set ask i 0 ∙ s.places.1);
+      pub sorting_known : (told : ℕ) → told < 2 ^ 64 → AsNoted x y n n' (Some told)
+          → Sorting ws count n₀ n' (set left i (bit_and v (18446744073709551615 - told))) (set ask i 0) (i + 1)
+      sorting_known told m noted = record {
+        places = (length-set left i (bit_and v (18446744073709551615 - told)) ∙ s.places.0, length-set ask i 0 ∙ s.places.1);
         sorted = λ held k. (
-          sorted_next ws up i h held count left ask (bit_and v (18446744073709551615 - r.mask)) 0 (omega (arith, s.places.0)) (omega (arith, s.places.1)) (s.sorted held k).0
-              (λ b n. ap (λ (z : ℕ). bit (bit_and z (18446744073709551615 - r.mask)) b || (bit 0 b && not (held (here.index * 64 + b)))) v_is ∙ sort_known ws up i h held count r.mask m (told_before ws up i h held r.mask ((noted_is (λ p. held p || holds (take i ws) p) (s.sorted held k).1).0 t)) b n),
-          then held k,
+          sorted_next ws up i h held count left ask (bit_and v (18446744073709551615 - told)) 0 (omega (arith, s.places.0)) (omega (arith, s.places.1)) (s.sorted held k).0
+              (λ b d. ap (λ (z : ℕ). bit (bit_and z (18446744073709551615 - told)) b || (bit 0 b && not (held (here.index * 64 + b)))) v_is ∙ sort_known ws up i h held count told m (told_before ws up i h held told (noted_is (Some told) noted (λ p. held p || holds (take i ws) p) (s.sorted held k).1).0) b d),
+          then (Some told) noted held k,
         );
         small = (
-          small_next i left (bit_and v (18446744073709551615 - r.mask)) (omega (arith, and_le_l v (18446744073709551615 - r.mask))) (omega (arith, s.places.0)) s.small.0,
+          small_next i left (bit_and v (18446744073709551615 - told)) (omega (arith, and_le_l v (18446744073709551615 - told))) (omega (arith, s.places.0)) s.small.0,
           small_next i ask 0 (lit< tt) (omega (arith, s.places.1)) s.small.1,
         );
       }
 
-      pub sorting_asked : Sorting ws count tags₀ masks₀ marks₀ tags' masks' marks' (set left i 0) (set ask i v) (i + 1)
-      sorting_asked = record {
-        lengths = l;
+      pub sorting_asked : AsNoted x y n n' None → Sorting ws count n₀ n' (set left i 0) (set ask i v) (i + 1)
+      sorting_asked noted = record {
         places = (length-set left i 0 ∙ s.places.0, length-set ask i v ∙ s.places.1);
         sorted = λ held k. (
           sorted_next ws up i h held count left ask 0 v (omega (arith, s.places.0)) (omega (arith, s.places.1)) (s.sorted held k).0
-              (λ b n. ap (λ (z : ℕ). bit 0 b || (bit z b && not (held (here.index * 64 + b)))) v_is ∙ sort_asked ws up i h held count b n),
-          then held k,
+              (λ b d. ap (λ (z : ℕ). bit 0 b || (bit z b && not (held (here.index * 64 + b)))) v_is ∙ sort_asked ws up i h held count b d),
+          then None noted held k,
         );
         small = (small_next i left 0 (lit< tt) (omega (arith, s.places.0)) s.small.0, small_next i ask v vs (omega (arith, s.places.1)) s.small.1);
       }

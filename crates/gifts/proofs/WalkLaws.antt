@@ -1,5 +1,6 @@
 -- The walk goes by steps: from a number of the path on, its items are those from the next number on, behind the item of the step; and there are none where the step finds
 -- none. By induction on how many commits are left: a commit whose gift is empty is no item, and the step goes on to the next.
+use Rattle.std.proofs.Common.{Option as Maybe, Some, None}
 use Rattle.std.specs.Prelude.{◌≡◌, ℕ, zero, suc, ◌+◌, ◌<◌, ◌≤◌, true, false, List, [], ◌∷◌, ◌++◌, length, drop}
 use mathlib.Core.Path.{refl, sym, ap, ◌∙◌, subst}
 use mathlib.Core.Option.{Option, none, some}
@@ -21,8 +22,6 @@ use Rattle.layout.specs.Tables.{commits_in, commits_ok}
 use Rattle.setbytes.specs.Laid.{set_laid}
 use Rattle.setbytes.proofs.LaidLaws.{says_laid, laid_normal}
 use Rattle.commits.specs.Places.{commit_at}
-use Rattle.commits.specs.declared.Place.{Place}
-use Rattle.commits.specs.declared.Place.TheVariants.{At, Missing}
 use Rattle.gifts.specs.Paths.{places_in, place_at, Inside, commits_at, PathOf, before}
 use Rattle.gifts.specs.Steps.{step_from, found_from, segment_of, item_at, items_from}
 use Rattle.gifts.specs.declared.Step.{Step}
@@ -51,15 +50,15 @@ one_item c none g q e = absurd (clash q refl)
 one_item c (some s) g q e = rw e
 
 -- a place, or none
-placed : {P : Type 0} (x : Place) → (x ≡ Missing → P) → ((i : ℕ) → x ≡ At i → P) → P
-placed Missing f g = f refl
-placed (At i) f g = g i refl
+placed : {P : Type 0} (x : Maybe ℕ) → (x ≡ None → P) → ((i : ℕ) → x ≡ Some i → P) → P
+placed None f g = f refl
+placed (Some i) f g = g i refl
 
-no_place : {P : Type 0} (x : Place) (i : ℕ) → x ≡ Missing → x ≡ At i → P
+no_place : {P : Type 0} (x : Maybe ℕ) (i : ℕ) → x ≡ None → x ≡ Some i → P
 no_place x i p q = let z : ◌≡◌ {A = ℕ} 0 1 = cc in absurd (omega arith)
 
 -- the last step found none at the end of the path
-pub items_none : (t ps : List ℕ) (count k : ℕ) → place_at k ps ≡ Missing → items_from t count ps k ≡ []
+pub items_none : (t ps : List ℕ) (count k : ℕ) → place_at k ps ≡ None → items_from t count ps k ≡ []
 unfolding items_from
 items_none t ps count k e = ap (λ (l : List ℕ). walk_from count (before k (commits_at t ps)) (commits_at t l)) (place_none k ps e)
 
@@ -68,7 +67,7 @@ module _ (t ps : List ℕ) (ok : commits_ok t ≡ true) (inside : Inside t ps) (
   gave k i = gift count (before k (commits_at t ps)) (commit_at t i)
 
   -- the items from k on: that of number k, if it is one, and those from the next number on
-  items_here : (k i : ℕ) → place_at k ps ≡ At i → items_from t count ps k ≡ item_of (commit_at t i) (commit_at t i).segment (gave k i) ++ items_from t count ps (k + 1)
+  items_here : (k i : ℕ) → place_at k ps ≡ Some i → items_from t count ps k ≡ item_of (commit_at t i) (commit_at t i).segment (gave k i) ++ items_from t count ps (k + 1)
   unfolding items_from
   items_here k i e =
       ap (λ (l : List ℕ). walk_from count (before k (commits_at t ps)) (commits_at t l)) (place_left k i ps e)
@@ -90,14 +89,14 @@ module _ (t ps : List ℕ) (ok : commits_ok t ≡ true) (inside : Inside t ps) (
   Went k x i = Stepped k x.0 x.1 i
 
   -- number k gets pages
-  module _ (k i : ℕ) (e : place_at k ps ≡ At i) (h : is_empty (gave k i) ≡ false) where
+  module _ (k i : ℕ) (e : place_at k ps ≡ Some i) (h : is_empty (gave k i) ≡ false) where
     inner : i < count_of t
     inner = place_below (count_of t) k i ps inside.below e
 
     has_one : is_some (commit_at t i).segment ≡ true
     has_one = options (commit_at t i).segment (λ q. absurd (clash (ap is_empty (no_gift count (before k (commits_at t ps)) (commit_at t i) q)) h)) (λ s q. ap (λ (o : Option Segment). is_some o) q)
 
-    given : Went k (record { at = At i; next = k + 1 }, gave k i) i
+    given : Went k (record { at = Some i; next = k + 1 }, gave k i) i
     given = record {
       has = has_one;
       below = inner;
@@ -110,7 +109,7 @@ module _ (t ps : List ℕ) (ok : commits_ok t ≡ true) (inside : Inside t ps) (
     }
 
   -- number k gets none
-  module _ (k p : ℕ) (e : place_at k ps ≡ At p) (h : is_empty (gave k p) ≡ true) where
+  module _ (k p : ℕ) (e : place_at k ps ≡ Some p) (h : is_empty (gave k p) ≡ true) where
     skips : items_from t count ps k ≡ items_from t count ps (k + 1)
     skips = items_here k p e ∙ ap (λ (l : List Item). l ++ items_from t count ps (k + 1)) (left_out (commit_at t p) (commit_at t p).segment (gave k p) h)
 
@@ -124,7 +123,7 @@ module _ (t ps : List ℕ) (ok : commits_ok t ≡ true) (inside : Inside t ps) (
       few = r.few;
     })
 
-  found_by_lem : (n k : ℕ) → length ps ≤ k + n → (i : ℕ) → (step_from t count ps k).0.at ≡ At i → Went k (step_from t count ps k) i
+  found_by_lem : (n k : ℕ) → length ps ≤ k + n → (i : ℕ) → (step_from t count ps k).0.at ≡ Some i → Went k (step_from t count ps k) i
   found_by_lem zero k h i e =
       placed (place_at k ps) (λ m. no_place (step_from t count ps k).0.at i (ap (λ (x : Step × Pages). x.0.at) (step_end t ps count k m)) e) (λ p q. absurd (omega (arith, place_few k p ps q)))
   found_by_lem (suc n) k h i e =
@@ -135,10 +134,10 @@ module _ (t ps : List ℕ) (ok : commits_ok t ≡ true) (inside : Inside t ps) (
       let z : p ≡ i = same_place p i (sym (ap (λ (x : Step × Pages). x.0.at) s) ∙ e) in
       subst (λ (j : ℕ). Went k (step_from t count ps k) j) z (subst (λ (x : Step × Pages). Went k x p) (sym s) (given k p q b))))
     where
-      same_place : (p i : ℕ) → At p ≡ At i → p ≡ i
+      same_place : (p i : ℕ) → Some p ≡ Some i → p ≡ i
       same_place p i e = cc
 
-  none_by : (n k : ℕ) → length ps ≤ k + n → (step_from t count ps k).0.at ≡ Missing → items_from t count ps k ≡ []
+  none_by : (n k : ℕ) → length ps ≤ k + n → (step_from t count ps k).0.at ≡ None → items_from t count ps k ≡ []
   none_by zero k h e = placed (place_at k ps) (λ m. items_none t ps count k m) (λ p q. absurd (omega (arith, place_few k p ps q)))
   none_by (suc n) k h e =
       placed (place_at k ps) (λ m. items_none t ps count k m)
@@ -148,14 +147,14 @@ module _ (t ps : List ℕ) (ok : commits_ok t ≡ true) (inside : Inside t ps) (
 
   -- THE LAW OF STEPS
   module _ (k : ℕ) (s : Step) (r : s ≡ (step_from t count ps k).0) where
-    pub step_found : (i : ℕ) → s.at ≡ At i → Stepped k s (step_from t count ps k).1 i
+    pub step_found : (i : ℕ) → s.at ≡ Some i → Stepped k s (step_from t count ps k).1 i
     step_found i e = subst (λ (x : Step). Stepped k x (step_from t count ps k).1 i) (sym r) (found_by_lem (length ps) k (omega arith) i (ap (λ (x : Step). x.at) (sym r) ∙ e))
 
-    pub step_none : s.at ≡ Missing → items_from t count ps k ≡ []
+    pub step_none : s.at ≡ None → items_from t count ps k ≡ []
     step_none e = none_by (length ps) k (omega arith) (ap (λ (x : Step). x.at) (sym r) ∙ e)
 
   -- no gift where no commit gets one
-  gone_by : (n k : ℕ) → length ps ≤ k + n → (step_from t count ps k).0.at ≡ Missing → (step_from t count ps k).1 ≡ []
+  gone_by : (n k : ℕ) → length ps ≤ k + n → (step_from t count ps k).0.at ≡ None → (step_from t count ps k).1 ≡ []
   gone_by zero k h e = placed (place_at k ps) (λ m. ap (λ (x : Step × Pages). x.1) (step_end t ps count k m)) (λ p q. absurd (omega (arith, place_few k p ps q)))
   gone_by (suc n) k h e =
       placed (place_at k ps) (λ m. ap (λ (x : Step × Pages). x.1) (step_end t ps count k m))
@@ -165,17 +164,17 @@ module _ (t ps : List ℕ) (ok : commits_ok t ≡ true) (inside : Inside t ps) (
 
   -- what a step found, by value
   module _ (k : ℕ) (s : Step) (r : s ≡ (step_from t count ps k).0) where
-    pub found_missing : (g : PageSet) → g ≡ empty_set → s.at ≡ Missing → record { at = Missing; next = s.next; gift = g } ≡ found_from t count ps k
+    pub found_missing : (g : PageSet) → g ≡ empty_set → s.at ≡ None → record { at = None; next = s.next; gift = g } ≡ found_from t count ps k
     found_missing g z e =
         let n = gone_by (length ps) k (omega arith) (ap (λ (x : Step). x.at) (sym r) ∙ e) in
-        ap (λ (x : PageSet). record { at = Missing; next = s.next; gift = x }) (z ∙ ap set_laid (sym n))
-        ∙ ap (λ (x : Place). record { at = x; next = s.next; gift = set_laid (step_from t count ps k).1 }) (sym e)
+        ap (λ (x : PageSet). record { at = None; next = s.next; gift = x }) (z ∙ ap set_laid (sym n))
+        ∙ ap (λ (x : Maybe ℕ). record { at = x; next = s.next; gift = set_laid (step_from t count ps k).1 }) (sym e)
         ∙ ap (λ (x : Step). record { at = x.at; next = x.next; gift = set_laid (step_from t count ps k).1 }) r
 
-    pub found_is : (i : ℕ) (g : PageSet) (p : Pages) → s.at ≡ At i → g ≡ set_laid p → p ≡ (step_from t count ps k).1 → record { at = At i; next = s.next; gift = g } ≡ found_from t count ps k
+    pub found_is : (i : ℕ) (g : PageSet) (p : Pages) → s.at ≡ Some i → g ≡ set_laid p → p ≡ (step_from t count ps k).1 → record { at = Some i; next = s.next; gift = g } ≡ found_from t count ps k
     found_is i g p e z q =
-        ap (λ (x : PageSet). record { at = At i; next = s.next; gift = x }) (z ∙ ap set_laid q)
-        ∙ ap (λ (x : Place). record { at = x; next = s.next; gift = set_laid (step_from t count ps k).1 }) (sym e)
+        ap (λ (x : PageSet). record { at = Some i; next = s.next; gift = x }) (z ∙ ap set_laid q)
+        ∙ ap (λ (x : Maybe ℕ). record { at = x; next = s.next; gift = set_laid (step_from t count ps k).1 }) (sym e)
         ∙ ap (λ (x : Step). record { at = x.at; next = x.next; gift = set_laid (step_from t count ps k).1 }) r
 
   -- the same of a gift by value
@@ -188,7 +187,7 @@ module _ (t ps : List ℕ) (ok : commits_ok t ≡ true) (inside : Inside t ps) (
     pub few : s.next ≤ length ps
 
   module _ (k : ℕ) (s : Found) (r : s ≡ found_from t count ps k) where
-    pub found_at : (i : ℕ) → s.at ≡ At i → FoundAt k s i
+    pub found_at : (i : ℕ) → s.at ≡ Some i → FoundAt k s i
     found_at i e =
         let x = found_by_lem (length ps) k (omega arith) i (ap (λ (x : Found). x.at) (sym r) ∙ e) in
         let g = (step_from t count ps k).1 in
@@ -201,7 +200,7 @@ module _ (t ps : List ℕ) (ok : commits_ok t ≡ true) (inside : Inside t ps) (
           few = x.few;
         })
 
-    pub found_none : s.at ≡ Missing → items_from t count ps k ≡ []
+    pub found_none : s.at ≡ None → items_from t count ps k ≡ []
     found_none e = none_by (length ps) k (omega arith) (ap (λ (x : Found). x.at) (sym r) ∙ e)
 
 -- ---- the whole walk

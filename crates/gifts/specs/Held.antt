@@ -4,6 +4,7 @@ use Rattle.pageset.specs.Sets.{bit, mask_at, holds, zero_window}
 use Rattle.rules.specs.Records.{Pages, Commit}
 use Rattle.rules.specs.Write.{pages_of}
 use Rattle.masks.specs.Masks.{less_masks}
+use Rattle.notes.specs.declared.Notes.{Notes}
 use Rattle.notes.specs.Known.{Known}
 
 -- these pages have no window from lo to hi
@@ -40,6 +41,6 @@ abbrev pub Sorted : (ℕ → Bool) → ℕ → Pages → List ℕ → List ℕ �
 Sorted held count ws left ask = (i : ℕ) → i < length ws → SortedAt held count ws left ask i
 
 -- whatever pages the notes were of, the windows are sorted by them, and the notes become those of these pages too
-abbrev pub AsSorted : Pages → ℕ → List ℕ → List ℕ → List ℕ → List ℕ → List ℕ → List ℕ → List ℕ → List ℕ → Type 0
-AsSorted ws count tags masks marks tags' masks' marks' left ask =
-    (held : ℕ → Bool) → Known held tags masks marks → Sorted held count ws left ask × Known (λ p. held p || holds ws p) tags' masks' marks'
+abbrev pub AsSorted : Pages → ℕ → Notes → Notes → List ℕ → List ℕ → Type 0
+AsSorted ws count n n' left ask =
+    (held : ℕ → Bool) → Known held n → Sorted held count ws left ask × Known (λ p. held p || holds ws p) n'

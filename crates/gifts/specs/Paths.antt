@@ -1,5 +1,5 @@
 -- The commits of a path as places in the table of commits: ranges in path order, LSN falling, which is the table's order.
-use Rattle.std.specs.Prelude.{◌≡◌, ℕ, zero, suc, ◌-◌, ◌<◌, ◌≤◌, List, [], ◌∷◌, ◌++◌, map, length, replicate}
+use Rattle.std.specs.Prelude.{◌≡◌, ℕ, zero, suc, ◌-◌, ◌<◌, ◌≤◌, List, [], ◌∷◌, ◌++◌, map, length, replicate, Option as Maybe, Some, None}
 use Rattle.std.proofs.Math.Option.{Option, none, some}
 use Rattle.rules.specs.Records.{Commit, Range}
 use Rattle.rules.specs.Pages.{numbers}
@@ -11,8 +11,6 @@ use Rattle.layout.specs.Records.{log_lsn_bytes}
 use Rattle.layout.specs.Tables.{commits_in}
 use Rattle.rows.specs.Lookups.{nth}
 use Rattle.commits.specs.Places.{commit_at}
-use Rattle.commits.specs.declared.Place.{Place}
-use Rattle.commits.specs.declared.Place.TheVariants.{At, Missing}
 
 -- the commits of a range stand from the key of its last LSN to that of its first
 abbrev pub run_of : List ℕ → Range → Run
@@ -34,9 +32,9 @@ places_in [] = []
 places_in (r ∷ rs) = numbers r.from (r.to - r.from) ++ places_in rs
 
 -- the place of a number, counted from 0
-abbrev pub place_at : ℕ → List ℕ → Place
-place_at k [] = Missing
-place_at zero (p ∷ ps) = At p
+abbrev pub place_at : ℕ → List ℕ → Maybe ℕ
+place_at k [] = None
+place_at zero (p ∷ ps) = Some p
 place_at (suc k) (p ∷ ps) = place_at k ps
 
 -- each place is below a bound

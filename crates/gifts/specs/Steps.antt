@@ -1,5 +1,5 @@
 -- One step of the walk: the next commit of the path that gets pages, and its gift.
-use Rattle.std.specs.Prelude.{◌≡◌, ℕ, ◌+◌, cond, List, [], ◌∷◌, drop}
+use Rattle.std.specs.Prelude.{◌≡◌, ℕ, ◌+◌, cond, List, [], ◌∷◌, drop, Option as Maybe, Some, None}
 use Rattle.std.proofs.Math.Option.{Option, none, some}
 use Rattle.rules.specs.Records.{Pages, Segment, Commit}
 use Rattle.rules.specs.Pages.{is_empty}
@@ -7,8 +7,6 @@ use Rattle.rules.specs.Write.{pages_of}
 use Rattle.rules.specs.Walk.{Item, gift, walk_from}
 use Rattle.setbytes.specs.Laid.{set_laid}
 use Rattle.commits.specs.Places.{commit_at}
-use Rattle.commits.specs.declared.Place.{Place}
-use Rattle.commits.specs.declared.Place.TheVariants.{At, Missing}
 use Rattle.masks.specs.Masks.{given}
 use Rattle.gifts.specs.declared.Step.{Step}
 use Rattle.gifts.specs.declared.Found.{Found}
@@ -16,11 +14,11 @@ use Rattle.gifts.specs.Paths.{commits_at, before}
 
 -- commit by commit, with those met so far: empty gifts are left out; k is the number of the first of the places that are left
 unfoldable pub step_of : List ℕ → ℕ → List Commit → List ℕ → ℕ → Step × Pages
-step_of t count earlier [] k = (record { at = Missing; next = k }, [])
+step_of t count earlier [] k = (record { at = None; next = k }, [])
 step_of t count earlier (p ∷ ps) k =
     cond (is_empty (gift count earlier (commit_at t p)))
     (step_of t count (commit_at t p ∷ earlier) ps (k + 1))
-    (record { at = At p; next = k + 1 }, gift count earlier (commit_at t p))
+    (record { at = Some p; next = k + 1 }, gift count earlier (commit_at t p))
 
 -- from number k of the path's places on
 unfoldable pub step_from : List ℕ → ℕ → List ℕ → ℕ → Step × Pages
@@ -40,8 +38,8 @@ unfoldable pub items_from : List ℕ → ℕ → List ℕ → ℕ → List Item
 items_from t count ps k = walk_from count (before k (commits_at t ps)) (commits_at t (drop k ps))
 
 -- the masks are those of a gift, if a commit gets one
-abbrev pub GiftIn : List ℕ → Place → List ℕ → Pages → Type 0
-GiftIn t at left g = (i : ℕ) → at ≡ At i → given (pages_of (commit_at t i).segment) left ≡ g
+abbrev pub GiftIn : List ℕ → Maybe ℕ → List ℕ → Pages → Type 0
+GiftIn t at left g = (i : ℕ) → at ≡ Some i → given (pages_of (commit_at t i).segment) left ≡ g
 
 -- a step with its gift by value
 abbrev pub found_from : List ℕ → ℕ → List ℕ → ℕ → Found

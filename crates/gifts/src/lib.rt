@@ -23,25 +23,25 @@ ghost use Rattle.gifts.specs.Steps.{step_from, GiftIn, found_from};
 ghost use Rattle.gifts.specs.Held.{Clear, held_by, less_all, Small, AsSorted};
 
 use basics::page_count::PageCount;
-use commits::{Place, has_segment_at, row};
+use commits::{has_segment_at, row};
 use masks::{kept, less, more, none_left, put_given};
-use notes::note;
+use notes::Notes;
 use octets::{load32, load64};
 use pageset::{PageSet, sets};
-use paths::{Path, place_at};
+use paths::Path;
 use setbytes::{count_read, set_read};
 
 // What a step of the walk finds: where the next commit that gets pages stands, and the number of the commit after it on the path; or none.
 #[derive(Clone, Copy)]
 pub struct Step {
-    pub at: Place,
+    pub at: Option<usize>,
     pub next: usize,
 }
 
 // What a step finds, with the gift of the commit as a set by value.
 #[derive(Clone, Copy)]
 pub struct Found {
-    pub at: Place,
+    pub at: Option<usize>,
     pub next: usize,
     pub gift: PageSet,
 }
@@ -66,9 +66,9 @@ fn apart(commits: &[u8], i: usize, lo: u32, hi: u32) -> bool
 }
 
 // The masks of n windows without the pages of record i.
-fn take_away(commits: &[u8], at: usize, n: usize, masks: &mut [u64], i: usize)
+fn take_away(commits: &[u8], at: usize, n: usize, masks: &mut [u64; 32], i: usize)
     requires commits_value { (commits_ok commits.now ≡ true) × (i < count_of commits.now) }
-    requires n_in_bounds { (at + n * 12 ≤ length commits.now) × (n ≤ 32) × (rising 0 (windows_at n at commits.now) ≡ true) × (length masks.old ≡ 32) }
+    requires n_in_bounds { (at + n * 12 ≤ length commits.now) × (n ≤ 32) × (rising 0 (windows_at n at commits.now) ≡ true) }
     ensures { masks.new ≡ less_masks (windows_at n at commits.now) (pages_of (commit_at commits.now i).segment) masks.old }
 {
     if !has_segment_at(commits, i) {
@@ -80,19 +80,17 @@ fn take_away(commits: &[u8], at: usize, n: usize, masks: &mut [u64], i: usize)
 }
 
 // The masks of n windows, one at least, without the pages that the first k commits of the path hold. A commit whose windows lie apart is passed by.
-fn ask_all(commits: &[u8], path: Path, k: usize, at: usize, n: usize, masks: &mut [u64])
+fn ask_all(commits: &[u8], path: Path, k: usize, at: usize, n: usize, masks: &mut [u64; 32])
     requires commits_value { (commits_ok commits.now ≡ true) × Inside commits.now (places_in path.runs) × (k ≤ length (places_in path.runs)) }
-    requires n_in_bounds { (at + n * 12 ≤ length commits.now) × (0 < n) × (n ≤ 32) × (rising 0 (windows_at n at commits.now) ≡ true) × (length masks.old ≡ 32) }
+    requires n_in_bounds { (at + n * 12 ≤ length commits.now) × (0 < n) × (n ≤ 32) × (rising 0 (windows_at n at commits.now) ≡ true) }
     ensures { masks.new ≡ less_all (windows_at n at commits.now) (before k (commits_at commits.now (places_in path.runs))) masks.old }
 {
     let lo = load32(commits, at);
     let hi = load32(commits, at + (n - 1) * 12);
-    let mut j: usize = 0;
-    while j < k {
-        let Place::At(i) = place_at(path, j) else {
+    for j in 0..k {
+        let Some(i) = path.at(j) else {
             return;
         };
-        j += 1;
         if !apart(commits, i, lo, hi) {
             take_away(commits, at, n, masks, i);
             if none_left(masks, n) {
@@ -108,31 +106,27 @@ fn sort_out(
     at: usize,
     n: usize,
     count: PageCount,
-    tags: &mut [u32],
-    masks: &mut [u64],
-    marks: &mut [u64],
-    left: &mut [u64],
-    ask: &mut [u64],
+    notes: &mut Notes,
+    left: &mut [u64; 32],
+    ask: &mut [u64; 32],
 )
-    requires n_in_bounds { (at + n * 12 ≤ length commits.now) × (n ≤ 32) × (normal_form (windows_at n at commits.now) ≡ true) × (length left.old ≡ 32) × (length ask.old ≡ 32) }
-    requires tags_len { (length tags.old ≡ 64) × (length masks.old ≡ 64) × (length marks.old ≡ 64) }
-    ensures as_sorted { AsSorted (windows_at n at commits.now) count.0 tags.old masks.old marks.old tags.new masks.new marks.new left.new ask.new }
+    requires { (at + n * 12 ≤ length commits.now) × (n ≤ 32) × (normal_form (windows_at n at commits.now) ≡ true) }
+    ensures as_sorted { AsSorted (windows_at n at commits.now) count.0 notes.old notes.new left.new ask.new }
     ensures small { (Small (windows_at n at commits.now) left.new) × Small (windows_at n at commits.now) ask.new }
 {
-    let mut i: usize = 0;
-    while i < n {
+    for i in 0..n {
         let index = load32(commits, at + i * 12);
         let mask = load64(commits, at + i * 12 + 4);
         let pages = kept(index, mask, count.0);
-        let told = note(tags, masks, marks, index, mask);
-        if told.known {
-            left[i] = pages & !told.mask;
-            ask[i] = 0;
-            i += 1;
-        } else {
-            left[i] = 0;
-            ask[i] = pages;
-            i += 1;
+        match notes.note(index, mask) {
+            Some(held) => {
+                left[i] = pages & !held;
+                ask[i] = 0;
+            }
+            None => {
+                left[i] = 0;
+                ask[i] = pages;
+            }
         }
     }
 }
@@ -144,11 +138,11 @@ fn ask_rest(
     k: usize,
     at: usize,
     n: usize,
-    left: &mut [u64],
-    ask: &mut [u64],
+    left: &mut [u64; 32],
+    ask: &mut [u64; 32],
 ) -> bool
     requires commits_value { (commits_ok commits.now ≡ true) × Inside commits.now (places_in path.runs) × (k ≤ length (places_in path.runs)) }
-    requires n_in_bounds { (at + n * 12 ≤ length commits.now) × (0 < n) × (n ≤ 32) × (rising 0 (windows_at n at commits.now) ≡ true) × (length left.old ≡ 32) × (length ask.old ≡ 32) }
+    requires n_in_bounds { (at + n * 12 ≤ length commits.now) × (0 < n) × (n ≤ 32) × (rising 0 (windows_at n at commits.now) ≡ true) }
     ensures value { result ≡ not (no_masks n left.new) }
     ensures left_after { left.new ≡ more_masks n left.old (less_all (windows_at n at commits.now) (before k (commits_at commits.now (places_in path.runs))) ask.old) }
 {
@@ -164,16 +158,14 @@ fn make_gift(
     count: PageCount,
     k: usize,
     i: usize,
-    tags: &mut [u32],
-    masks: &mut [u64],
-    marks: &mut [u64],
-    left: &mut [u64],
+    notes: &mut Notes,
+    left: &mut [u64; 32],
 ) -> bool
     requires commits_value { (commits_ok commits.now ≡ true) × Inside commits.now (places_in path.runs) × (i < count_of commits.now) × (k ≤ length (places_in path.runs)) }
-    requires known { Known (held_by (before k (commits_at commits.now (places_in path.runs)))) tags.old masks.old marks.old × (length left.old ≡ 32) }
+    requires known { Known (held_by (before k (commits_at commits.now (places_in path.runs)))) notes.old }
     ensures value { result ≡ not (is_empty (gift_of count.0 (before k (commits_at commits.now (places_in path.runs))) (commit_at commits.now i))) }
     ensures left_after { given (pages_of (commit_at commits.now i).segment) left.new ≡ gift_of count.0 (before k (commits_at commits.now (places_in path.runs))) (commit_at commits.now i) }
-    ensures known_2 { Known (held_by (commit_at commits.now i ∷ before k (commits_at commits.now (places_in path.runs)))) tags.new masks.new marks.new }
+    ensures known_2 { Known (held_by (commit_at commits.now i ∷ before k (commits_at commits.now (places_in path.runs)))) notes.new }
 {
     if !has_segment_at(commits, i) {
         return false;
@@ -181,17 +173,7 @@ fn make_gift(
     let at = row(commits, i) + 79;
     let n = count_read(commits, at, 32);
     let mut ask = [0u64; 32];
-    sort_out(
-        commits,
-        at + 1,
-        n,
-        count,
-        tags,
-        masks,
-        marks,
-        left,
-        &mut ask,
-    );
+    sort_out(commits, at + 1, n, count, notes, left, &mut ask);
     if none_left(&ask, n) {
         return !none_left(left, n);
     }
@@ -204,30 +186,25 @@ pub fn next_gift(
     path: Path,
     count: PageCount,
     from: usize,
-    tags: &mut [u32],
-    masks: &mut [u64],
-    marks: &mut [u64],
-    left: &mut [u64],
+    notes: &mut Notes,
+    left: &mut [u64; 32],
 ) -> Step
     requires commits_value { (commits_ok commits.now ≡ true) × Inside commits.now (places_in path.runs) }
-    requires known { Known (held_by (before from (commits_at commits.now (places_in path.runs)))) tags.old masks.old marks.old × (length left.old ≡ 32) }
+    requires known { Known (held_by (before from (commits_at commits.now (places_in path.runs)))) notes.old }
     ensures value { result ≡ (step_from commits.now count.0 (places_in path.runs) from).0 }
     ensures gift_in { GiftIn commits.now result.at left.new (step_from commits.now count.0 (places_in path.runs) from).1 }
-    ensures known_2 { Known (held_by (before result.next (commits_at commits.now (places_in path.runs)))) tags.new masks.new marks.new }
+    ensures known_2 { Known (held_by (before result.next (commits_at commits.now (places_in path.runs)))) notes.new }
 {
     let mut k = from;
     loop {
-        let Place::At(i) = place_at(path, k) else {
-            return Step {
-                at: Place::Missing,
-                next: k,
-            };
+        let Some(i) = path.at(k) else {
+            return Step { at: None, next: k };
         };
-        let some = make_gift(commits, path, count, k, i, tags, masks, marks, left);
+        let some = make_gift(commits, path, count, k, i, notes, left);
         k += 1;
         if some {
             return Step {
-                at: Place::At(i),
+                at: Some(i),
                 next: k,
             };
         }
@@ -235,9 +212,9 @@ pub fn next_gift(
 }
 
 // The gift of record i, which has a segment, from its masks: as bytes over 385 of a list.
-pub fn put_gift(list: &mut [u8], to: usize, commits: &[u8], i: usize, left: &[u64])
+pub fn put_gift(list: &mut [u8], to: usize, commits: &[u8], i: usize, left: &[u64; 32])
     requires commits_value { (commits_ok commits.now ≡ true) × (i < count_of commits.now) × (is_some (commit_at commits.now i).segment ≡ true) }
-    requires to_in_bounds { (to + 385 ≤ length list.old) × (length left.now ≡ 32) }
+    requires to_in_bounds { to + 385 ≤ length list.old }
     ensures { list.new ≡ put to (set_bytes.spell (given (pages_of (commit_at commits.now i).segment) left.now)) list.old }
 {
     let at = row(commits, i) + 79;
@@ -246,9 +223,9 @@ pub fn put_gift(list: &mut [u8], to: usize, commits: &[u8], i: usize, left: &[u6
 }
 
 // And as a set by value, where it is in form.
-fn gift_set(commits: &[u8], i: usize, left: &[u64]) -> PageSet
+fn gift_set(commits: &[u8], i: usize, left: &[u64; 32]) -> PageSet
     requires commits_value { (commits_ok commits.now ≡ true) × (i < count_of commits.now) × (is_some (commit_at commits.now i).segment ≡ true) }
-    requires left_value { (normal_form (given (pages_of (commit_at commits.now i).segment) left.now) ≡ true) × (length left.now ≡ 32) }
+    requires left_value { normal_form (given (pages_of (commit_at commits.now i).segment) left.now) ≡ true }
     ensures { result ≡ set_laid (given (pages_of (commit_at commits.now i).segment) left.now) }
 {
     let mut form = [0u8; 385];
@@ -262,30 +239,28 @@ pub fn next_set(
     path: Path,
     count: PageCount,
     from: usize,
-    tags: &mut [u32],
-    masks: &mut [u64],
-    marks: &mut [u64],
+    notes: &mut Notes,
 ) -> Found
     requires commits_value { (commits_ok commits.now ≡ true) × Inside commits.now (places_in path.runs) }
-    requires known { Known (held_by (before from (commits_at commits.now (places_in path.runs)))) tags.old masks.old marks.old }
+    requires known { Known (held_by (before from (commits_at commits.now (places_in path.runs)))) notes.old }
     ensures value { result ≡ found_from commits.now count.0 (places_in path.runs) from }
-    ensures known_2 { Known (held_by (before result.next (commits_at commits.now (places_in path.runs)))) tags.new masks.new marks.new }
+    ensures known_2 { Known (held_by (before result.next (commits_at commits.now (places_in path.runs)))) notes.new }
 {
     let mut left = [0u64; 32];
-    let step = next_gift(commits, path, count, from, tags, masks, marks, &mut left);
+    let step = next_gift(commits, path, count, from, notes, &mut left);
     let at = step.at;
     let next = step.next;
-    let Place::At(i) = at else {
+    let Some(i) = at else {
         let gift = sets::empty();
         return Found {
-            at: Place::Missing,
+            at: None,
             next,
             gift,
         };
     };
     let gift = gift_set(commits, i, &left);
     Found {
-        at: Place::At(i),
+        at: Some(i),
         next,
         gift,
     }

@@ -1,10 +1,10 @@
 // The commits of a snapshot's path as places in the table of commits: a run of places for each range, in path order.
-ghost use Rattle.std.specs.Prelude.{◌≡◌, ◌-◌, ◌≤◌, true, length, nat_le};
+ghost use Rattle.std.specs.Prelude.{◌≡◌, ◌≤◌, true, length, nat_le};
 ghost use Rattle.layout.specs.Tables.{commits_ok};
 ghost use Rattle.volume.specs.Snapshots.{snapshot_says};
 ghost use Rattle.gifts.specs.Paths.{places_in, place_at, PathOf};
 
-use commits::{Place, range_run};
+use commits::range_run;
 use table::Run;
 use volume::snapshot::Snapshot;
 
@@ -14,69 +14,48 @@ pub struct Path {
     pub runs: [Run; 8],
 }
 
-// Where the commits of a snapshot stand, range by range.
-pub fn path_of(commits: &[u8], s: Snapshot) -> Path
-    requires { (commits_ok commits.now ≡ true) × (s.len ≤ 8) }
-    ensures { PathOf commits.now (snapshot_says s).path result.runs }
-{
-    let n = s.len;
-    let ranges = s.path;
-    let none = Run { from: 0, to: 0 };
-    let mut runs = [none; 8];
-    let mut i: usize = 0;
-    while i < n {
-        let range = ranges[i];
-        let log = range.log;
-        runs[i] = range_run(commits, log, range.start.0, range.end.0);
-        i += 1;
-    }
-    Path { runs }
-}
-
-// How many places a run has.
-fn run_size(run: Run) -> usize
-    ensures { result ≡ run.to - run.from }
-{
-    if run.to <= run.from {
-        return 0;
-    }
-    run.to - run.from
-}
-
-// The place of the path's commit of a number, counted from 0, or none.
-pub fn place_at(path: Path, k: usize) -> Place
-    ensures { result ≡ place_at k (places_in path.runs) }
-{
-    let runs = path.runs;
-    let mut left = k;
-    let mut i: usize = 0;
-    while i < 8 {
-        let run = runs[i];
-        let n = run_size(run);
-        if left < n {
-            return Place::At(run.from + left);
+impl Path {
+    // Where the commits of a snapshot stand, range by range.
+    pub fn of(commits: &[u8], s: Snapshot) -> Path
+        requires { (commits_ok commits.now ≡ true) × (s.len ≤ 8) }
+        ensures { PathOf commits.now (snapshot_says s).path result.runs }
+    {
+        let none = Run { from: 0, to: 0 };
+        let mut runs = [none; 8];
+        for i in 0..s.len {
+            let range = s.path[i];
+            runs[i] = range_run(commits, range.log, range.start.0, range.end.0);
         }
-        left -= n;
-        i += 1;
+        Path { runs }
     }
-    Place::Missing
-}
 
-// Whether a path has at most so many commits.
-pub fn at_most(path: Path, slots: usize) -> bool
-    ensures { result ≡ nat_le (length (places_in path.runs)) slots }
-{
-    let runs = path.runs;
-    let mut left = slots;
-    let mut i: usize = 0;
-    while i < 8 {
-        let run = runs[i];
-        let n = run_size(run);
-        if left < n {
-            return false;
+    // The place of the path's commit of a number, counted from 0, or none.
+    pub fn at(self, k: usize) -> Option<usize>
+        ensures { result ≡ place_at k (places_in self.runs) }
+    {
+        let mut left = k;
+        for run in self.runs {
+            let n = run.to.saturating_sub(run.from);
+            if left < n {
+                return Some(run.from + left);
+            }
+            left -= n;
         }
-        left -= n;
-        i += 1;
+        None
     }
-    true
+
+    // Whether the path has at most so many commits.
+    pub fn at_most(self, slots: usize) -> bool
+        ensures { result ≡ nat_le (length (places_in self.runs)) slots }
+    {
+        let mut left = slots;
+        for run in self.runs {
+            let n = run.to.saturating_sub(run.from);
+            if left < n {
+                return false;
+            }
+            left -= n;
+        }
+        true
+    }
 }

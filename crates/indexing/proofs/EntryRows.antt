@@ -2,7 +2,7 @@
 use Rattle.std.proofs.Common.{◌≡◌, ℕ, suc, ◌+◌, ◌^◌, ◌<◌, true, List, [], ◌∷◌, ◌++◌, map, length, drop, sym, refl, ap, ◌∙◌, ap₂, append_assoc, arith, length-append, take_at, drop_at}
 use Rattle.octets.specs.Bytes.{bytes_of, down, part, put}
 use Rattle.octets.specs.Order.{lex, then_by}
-use Rattle.octets.specs.declared.Order.TheVariants.{Less}
+use Rattle.std.proofs.Common.{Less}
 use Rattle.octets.proofs.Numbers as N
 use Rattle.octets.proofs.Orders as O
 use Rattle.octets.proofs.Places as P

@@ -84,12 +84,10 @@ fn checkpoint_rows(log: LogId, lsns: [Lsn; 8], n: usize) -> [u8; 200]
     ensures { runs n 25 0 result ≡ checkpoint_rows log (listed lsns n) }
 {
     let mut rows = [0u8; 200];
-    let mut i: usize = 0;
-    while i < n {
+    for i in 0..n {
         let lsn = lsns[i];
         let k = layout::log_key(log, lsn.0);
         octets::store_all(&mut rows, i * CHECKPOINT, &k);
-        i += 1;
     }
     rows
 }

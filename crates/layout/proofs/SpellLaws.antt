@@ -7,8 +7,7 @@ use lib.ListN.{length-replicate}
 use Rattle.octets.specs.Bytes.{be, bytes_of, down, part, AreBytes, all_zero}
 use Rattle.octets.specs.Order.{lex, is_equal, order, then_by}
 use Rattle.octets.specs.Flat.{flat}
-use Rattle.octets.specs.declared.Order.{Order}
-use Rattle.octets.specs.declared.Order.TheVariants.{Less, Equal, Greater}
+use Rattle.std.proofs.Common.{Ordering, Less, Equal, Greater}
 use Rattle.octets.proofs.Numbers as N
 use Rattle.octets.proofs.Places as P
 use Rattle.octets.proofs.Orders as O
@@ -20,7 +19,7 @@ use Rattle.layout.specs.Codecs.{Codec, number, complement, raw, padded, reserved
 
 -- ---- bytes that are the same
 
-then_same : (o p : Order) → is_equal (then_by o p) ≡ is_equal o && is_equal p
+then_same : (o p : Ordering) → is_equal (then_by o p) ≡ is_equal o && is_equal p
 unfolding then_by
 then_same Less p = refl
 then_same Equal p = refl

@@ -91,10 +91,8 @@ fn put_lsns(commits: &[u8], from: usize, to: usize, list: &mut [u8])
     requires { (commits_ok commits.now ≡ true) × (from ≤ to) × (to ≤ count_of commits.now) × ((to - from) * 8 ≤ length list.old) }
     ensures { list.new ≡ put 0 (flat (number 8).spell (map (λ c. c.lsn) (stretch from to (commits_in commits.now).rows))) list.old }
 {
-    let mut i = from;
-    while i < to {
+    for i in from..to {
         octets::store64(list, (i - from) * LSN, commits::lsn_at(commits, i));
-        i += 1;
     }
 }
 
@@ -139,12 +137,9 @@ fn count_commits(commits: &[u8], path: [LogRange; 8], len: usize) -> usize
     ensures { (result ≡ length (first_commits commits.now len path)) × (result ≤ len * 65535) }
 {
     let mut n: usize = 0;
-    let mut i: usize = 0;
-    while i < len {
-        let range = path[i];
-        let run = places_of(commits, range);
+    for i in 0..len {
+        let run = places_of(commits, path[i]);
         n += run.to - run.from;
-        i += 1;
     }
     n
 }
@@ -167,11 +162,8 @@ fn put_commits(commits: &[u8], path: [LogRange; 8], len: usize, list: &mut [u8])
     ensures { list.new ≡ put 0 (flat commit_bytes.spell (first_commits commits.now len path)) list.old }
 {
     let mut k: usize = 0;
-    let mut i: usize = 0;
-    while i < len {
-        let range = path[i];
-        k = put_range(commits, range, list, k);
-        i += 1;
+    for i in 0..len {
+        k = put_range(commits, path[i], list, k);
     }
 }
 

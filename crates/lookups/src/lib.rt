@@ -18,7 +18,6 @@ use basics::lsn::Lsn;
 use basics::pageidx::PageIdx;
 use layout::{CHECKPOINT, ENTRY};
 use volume::snapshot::LogRange;
-use volume::volume::MaybeLsn;
 
 // Whether the checkpoint at a place is the log's, at or below an LSN.
 fn at_or_below(t: &[u8], at: usize, log: LogId, lsn: Lsn) -> bool
@@ -32,20 +31,20 @@ fn at_or_below(t: &[u8], at: usize, log: LogId, lsn: Lsn) -> bool
 }
 
 // The LSN of the log's highest checkpoint at or below an LSN, or nothing.
-pub fn checkpoint_at(t: &[u8], log: LogId, lsn: Lsn) -> MaybeLsn
+pub fn checkpoint_at(t: &[u8], log: LogId, lsn: Lsn) -> Option<Lsn>
     requires { checkpoints_ok t.now ≡ true }
     ensures { maybe_lsn_says result ≡ checkpoint_lsn (checkpoint_at (checkpoints_in t.now) log lsn.0) }
 {
     let key = layout::log_key(log, lsn.0);
     let i = table::from_key(t, CHECKPOINT, CHECKPOINT, &key);
     if i == table::count(t) {
-        return MaybeLsn::Missing;
+        return None;
     }
     let at = 2 + i * CHECKPOINT;
     if !at_or_below(t, at, log, lsn) {
-        return MaybeLsn::Missing;
+        return None;
     }
-    MaybeLsn::At(entries::checkpoint_lsn(t, at))
+    Some(entries::checkpoint_lsn(t, at))
 }
 
 // Whether the index entry at a place is one of a page, in a range.
@@ -68,7 +67,7 @@ fn in_range(t: &[u8], at: usize, range: LogRange, page: PageIdx) -> bool
 }
 
 // The LSN of the index entry of a page with the highest LSN in a range, or nothing.
-pub fn entry_in(t: &[u8], range: LogRange, page: PageIdx) -> MaybeLsn
+pub fn entry_in(t: &[u8], range: LogRange, page: PageIdx) -> Option<Lsn>
     requires { index_ok t.now ≡ true }
     ensures { maybe_lsn_says result ≡ entry_lsn (first (entry_in (range_says range) page.0) (index_in t.now).rows) }
 {
@@ -77,11 +76,11 @@ pub fn entry_in(t: &[u8], range: LogRange, page: PageIdx) -> MaybeLsn
     let key = entries::entry_key(log, page, end);
     let i = table::from_key(t, ENTRY, ENTRY, &key);
     if i == table::count(t) {
-        return MaybeLsn::Missing;
+        return None;
     }
     let at = 2 + i * ENTRY;
     if !in_range(t, at, range, page) {
-        return MaybeLsn::Missing;
+        return None;
     }
-    MaybeLsn::At(entries::entry_lsn(t, at))
+    Some(entries::entry_lsn(t, at))
 }

@@ -8,7 +8,8 @@ use native.Mathlib.Omega.{arith}
 use native.Mathlib.Numerals.{add-one}
 use borrow.Author.Tests.{leb-true, le-leb, lt-ltb, le-ltb, eq-eqb, ne_eqb}
 use lib.Bits.{bit_and, bit_or, bit_xor, and_lt, xor_lt, and_mask, and_zero_r, xor_zero_r}
-use lib.Dec.{leb}
+use lib.Dec.{eqb, leb}
+use Rattle.std.specs.List.{list_all}
 use lib.ListN.{length, get_or, take, drop, set, take-append-drop, drop_of_length-le}
 use lib.Pow.{ones_sub-lt, ones_split, ones_lt, high}
 use lib.Seq.{take-suc, take-suc-set, drop-cons, drop-set-lt}
@@ -207,19 +208,11 @@ module _ (n at m other : ℕ) (s : List ℕ) (i j : ℕ) (ms : List ℕ) where
 less_one : (n i : ℕ) → i < n → n - i ≡ suc (n - (i + 1))
 less_one n i h = omega arith
 
-module _ (n i : ℕ) (ms : List ℕ) where
-  pub none_done : n ≤ i → true ≡ no_masks (n - i) (drop i ms)
-  unfolding no_masks
-  none_done h = let e : n - i ≡ 0 = omega arith in rw e
-
-  module _ (h : i < n) (long : i < length ms) where
-    pub none_passed : get_or ms i 0 ≡ 0 → no_masks (n - (i + 1)) (drop (i + 1) ms) ≡ no_masks (n - i) (drop i ms)
-    unfolding no_masks
-    none_passed e = rw (less_one n i h, mask_on ms i long, e)
-
-    pub some_left : (get_or ms i 0 ≡ 0 → ⊥) → false ≡ no_masks (n - i) (drop i ms)
-    unfolding no_masks
-    some_left e = rw (less_one n i h, mask_on ms i long, ne_eqb (get_or ms i 0) 0 e)
+pub all_none : (n : ℕ) (ms : List ℕ) → list_all (λ m. eqb m 0) (take n ms) ≡ no_masks n ms
+unfolding no_masks
+all_none zero ms = refl
+all_none (suc n) [] = refl
+all_none (suc n) (m ∷ ms) = ap (λ (b : Bool). eqb m 0 && b) (all_none n ms)
 
 -- the masks, when the first n from i on have the pages of the others
 abbrev pub more_from : ℕ → List ℕ → ℕ → List ℕ → List ℕ

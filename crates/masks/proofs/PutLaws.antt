@@ -4,7 +4,9 @@ use mathlib.Core.Path.{◌≡◌, refl, sym, ap, ap₂, ◌∙◌}
 use mathlib.Core.List.{List, [], ◌∷◌, ◌++◌}
 use native.Mathlib.Omega.{arith}
 use borrow.Author.Tests.{lt-ltb}
-use lib.ListN.{length, get_or, drop, set, replicate, length-drop, length-replicate, replicate-append-replicate}
+use Rattle.std.proofs.Common.{drop-drop}
+use borrow.Rule.Slice.PartMut.{put_mid}
+use lib.ListN.{length, get_or, take, drop, replicate, length-drop, length-replicate, replicate-append-replicate}
 use Rattle.octets.specs.Bytes.{be, bytes_of, part, put}
 use Rattle.octets.specs.Flat.{flat}
 use Rattle.octets.proofs.Flats.{length_flat}
@@ -68,15 +70,6 @@ window_put to w x rest l t u h p q =
     let e : to + (w + 1) * 12 ≡ to + w * 12 + 12 = omega arith in
     ap₂ (λ (k : ℕ) (y : List ℕ). put k (spelled rest) y) e (window_stored (to + w * 12) x l t u (omega arith) p q)
     ∙ P.put_next (to + w * 12) 12 (12 * length rest) (window_bytes.spell x) (spelled rest) l (window_long x) (length_spelled rest) h
-
--- a zero more
-pub zero_put : (to i : ℕ) (l t : List ℕ) → to + i < length l → t ≡ put to (replicate i 0) l → set t (to + i) 0 ≡ put to (replicate (i + 1) 0) l
-zero_put to i l t h e =
-    let r = length-replicate {A = ℕ} i 0 in
-    ap (λ (x : List ℕ). set x (to + i) 0) e
-    ∙ sym (P.put_one (to + i) 0 (put to (replicate i 0) l) (omega (arith, P.length_put to (replicate i 0) l (omega arith))))
-    ∙ P.put_next to i 1 (replicate i 0) (0 ∷ []) l r refl (omega arith)
-    ∙ ap (λ (x : List ℕ). put to x l) (replicate-append-replicate i 1 0)
 
 -- the windows, the zeros behind them, and the count in front
 pub set_put_lem : (to : ℕ) (ws : Pages) (n : ℕ) (l t u v : List ℕ) → n ≡ length ws → n ≤ 32 → to + 385 ≤ length l → t ≡ put (to + 1) (spelled ws) l

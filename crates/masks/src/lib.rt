@@ -22,7 +22,7 @@ pub fn kept(index: u32, mask: u64, count: u32) -> u64
     if count / 64 < index {
         return 0;
     }
-    mask & (!0u64 >> (63 - count % 64))
+    mask & (u64::MAX >> (63 - count % 64))
 }
 
 // Each mask of n windows without the pages that m other windows hold. Both rise, and are walked together, the lower index first.
@@ -33,6 +33,7 @@ pub fn less(s: &[u8], at: usize, n: usize, masks: &mut [u64], other: usize, m: u
 {
     let mut i: usize = 0;
     let mut j: usize = 0;
+    // Kept: two walks that go at their own pace; no one iterator does it plainer.
     while i < n {
         if m <= j {
             return;
@@ -41,14 +42,12 @@ pub fn less(s: &[u8], at: usize, n: usize, masks: &mut [u64], other: usize, m: u
         let y = load32(s, other + j * 12);
         if x < y {
             i += 1;
+        } else if x == y {
+            masks[i] &= !load64(s, other + j * 12 + 4);
+            i += 1;
+            j += 1;
         } else {
-            if x == y {
-                masks[i] = masks[i] & !load64(s, other + j * 12 + 4);
-                i += 1;
-                j += 1;
-            } else {
-                j += 1;
-            }
+            j += 1;
         }
     }
 }
@@ -58,14 +57,7 @@ pub fn none_left(masks: &[u64], n: usize) -> bool
     requires { (n ≤ 32) × (length masks.now ≡ 32) }
     ensures { result ≡ no_masks n masks.now }
 {
-    let mut i: usize = 0;
-    while i < n {
-        if masks[i] != 0 {
-            return false;
-        }
-        i += 1;
-    }
-    true
+    masks[..n].iter().all(|m| *m == 0)
 }
 
 // The first n masks with the pages of n others.
@@ -73,10 +65,8 @@ pub fn more(masks: &mut [u64], others: &[u64], n: usize)
     requires { (n ≤ 32) × (length masks.old ≡ 32) × (length others.now ≡ 32) }
     ensures { masks.new ≡ more_masks n masks.old others.now }
 {
-    let mut i: usize = 0;
-    while i < n {
-        masks[i] = masks[i] | others[i];
-        i += 1;
+    for i in 0..n {
+        masks[i] |= others[i];
     }
 }
 
@@ -87,16 +77,14 @@ fn put_windows(list: &mut [u8], to: usize, s: &[u8], at: usize, n: usize, masks:
     ensures list_after { list.new ≡ put to (flat window_bytes.spell (given (windows_at n at s.now) masks.now)) list.old }
 {
     let mut w: usize = 0;
-    let mut i: usize = 0;
-    while i < n {
+    for i in 0..n {
         let mask = masks[i];
-        let from = at + i * 12;
-        i += 1;
-        if mask != 0 {
-            store32(list, to + w * 12, load32(s, from));
-            store64(list, to + w * 12 + 4, mask);
-            w += 1;
+        if mask == 0 {
+            continue;
         }
+        store32(list, to + w * 12, load32(s, at + i * 12));
+        store64(list, to + w * 12 + 4, mask);
+        w += 1;
     }
     w
 }
@@ -106,11 +94,7 @@ fn put_zeros(list: &mut [u8], to: usize, n: usize)
     requires { to + n ≤ length list.old }
     ensures { list.new ≡ put to (replicate n 0) list.old }
 {
-    let mut i: usize = 0;
-    while i < n {
-        list[to + i] = 0;
-        i += 1;
-    }
+    list[to..to + n].fill(0);
 }
 
 // The set of the windows with masks of their own, those without a page left out, over 385 bytes of the list.

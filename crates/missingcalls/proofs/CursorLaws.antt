@@ -1,6 +1,6 @@
 -- A listing, step by step. What is left at a cursor is what is left of the record that is listed, then the missing frames of the items from the next number on; an item's own are
 -- those of its segment by its gift. A step finds the first of what is left. Assumes nothing.
-use Rattle.std.proofs.Common.{◌≡◌, ℕ, ◌+◌, ◌*◌, ◌<◌, ◌≤◌, Bool, true, false, leb, List, [], ◌∷◌, ◌++◌, length, sym, refl, ap, ◌∙◌, subst, arith, length-append, leb-true}
+use Rattle.std.proofs.Common.{◌≡◌, ℕ, ◌+◌, ◌*◌, ◌<◌, ◌≤◌, Bool, true, false, leb, List, [], ◌∷◌, ◌++◌, length, sym, refl, ap, ◌∙◌, subst, arith, length-append, leb-true, Option as Maybe, Some, None}
 use mathlib.Core.Option.{Option, none, some}
 use Rattle.pageset.specs.Sets.{shown, normal}
 use Rattle.rules.specs.Lists.{those, given}
@@ -18,8 +18,6 @@ use Rattle.rows.proofs.Tables.{commits}
 use Rattle.commit.specs.Says.{range_says}
 use Rattle.commit.proofs.RecordLaws.{one_range}
 use Rattle.commits.specs.Places.{commit_at}
-use Rattle.commits.specs.declared.Place.{Place}
-use Rattle.commits.specs.declared.Place.TheVariants.{At, Missing}
 use Rattle.arguments.proofs.SetLaws.{empty_normal}
 use Rattle.segmentargs.proofs.ListLaws.{parts_long}
 use Rattle.gifts.specs.Paths.{Below, Inside, commits_at}
@@ -86,25 +84,25 @@ module _ (t : List ℕ) (ps : Table R.Present) (count : ℕ) (places : List ℕ)
   later k = missing_of ps (items_from t count places k)
 
   -- no record is listed
-  pub left_none : (c : Cursor) → c.at ≡ Missing → later c.next ≡ missing_left t ps count places c
+  pub left_none : (c : Cursor) → c.at ≡ None → later c.next ≡ missing_left t ps count places c
   unfolding missing_left
-  left_none c e = sym (ap (λ (x : Place). left_at t ps x (shown c.gift) c.frame ++ later c.next) e)
+  left_none c e = sym (ap (λ (x : Maybe ℕ). left_at t ps x (shown c.gift) c.frame ++ later c.next) e)
 
-  left_is : (c : Cursor) (i : ℕ) → c.at ≡ At i → missing_left t ps count places c ≡ frames_left ps (shown c.gift) (frames_at t i) c.frame ++ later c.next
+  left_is : (c : Cursor) (i : ℕ) → c.at ≡ Some i → missing_left t ps count places c ≡ frames_left ps (shown c.gift) (frames_at t i) c.frame ++ later c.next
   unfolding missing_left
-  left_is c i e = ap (λ (x : Place). left_at t ps x (shown c.gift) c.frame ++ later c.next) e
+  left_is c i e = ap (λ (x : Maybe ℕ). left_at t ps x (shown c.gift) c.frame ++ later c.next) e
 
   -- nothing is left of the record
-  pub left_past : (c : Cursor) (i : ℕ) → c.at ≡ At i → frames_left ps (shown c.gift) (frames_at t i) c.frame ≡ [] → later c.next ≡ missing_left t ps count places c
+  pub left_past : (c : Cursor) (i : ℕ) → c.at ≡ Some i → frames_left ps (shown c.gift) (frames_at t i) c.frame ≡ [] → later c.next ≡ missing_left t ps count places c
   left_past c i e h = sym (left_is c i e ∙ ap (λ (l : List Part). l ++ later c.next) h)
 
-  pub sound_at : (c : Cursor) (i : ℕ) → Sound t c → c.at ≡ At i → SoundAt t (At i)
+  pub sound_at : (c : Cursor) (i : ℕ) → Sound t c → c.at ≡ Some i → SoundAt t (Some i)
   sound_at c i h e = subst (SoundAt t) e h.place
 
   -- a frame of it is found
-  module _ (i : ℕ) (c : Cursor) (d : SoundAt t (At i)) (n : normal c.gift ≡ true) (f : FrameStep) (h : NextFrame ps (shown c.gift) (frames_at t i) c.frame f) (y : f.found ≡ true) where
+  module _ (i : ℕ) (c : Cursor) (d : SoundAt t (Some i)) (n : normal c.gift ≡ true) (f : FrameStep) (h : NextFrame ps (shown c.gift) (frames_at t i) c.frame f) (y : f.found ≡ true) where
     abbrev rest : Cursor
-    rest = record { at = At i; gift = c.gift; frame = f.frame; next = c.next }
+    rest = record { at = Some i; gift = c.gift; frame = f.frame; next = c.next }
 
     abbrev told : Step
     told = record { found = true; range = f.range; rest = rest }
@@ -116,7 +114,7 @@ module _ (t : List ℕ) (ps : Table R.Present) (count : ℕ) (places : List ℕ)
     tells : (all : List Part) → all ≡ frames_left ps (shown c.gift) (frames_at t i) c.frame ++ later c.next → NextMissing t ps count places all told
     tells all e = record { next = (e ∙ front, ((frame_found ps (shown c.gift) (frames_at t i) c.frame f h y).1, record { place = d; gift = n })) }
 
-    pub left_here : c.at ≡ At i → NextMissing t ps count places (missing_left t ps count places c) told
+    pub left_here : c.at ≡ Some i → NextMissing t ps count places (missing_left t ps count places c) told
     left_here e = tells (missing_left t ps count places c) (left_is c i e)
 
   -- ---- the items of the path
@@ -129,13 +127,13 @@ module _ (t : List ℕ) (ps : Table R.Present) (count : ℕ) (places : List ℕ)
     pub item_past : frames_left ps (shown s.gift) (frames_at t i) 0 ≡ [] → later k ≡ later s.next
     item_past e = item_left ∙ ap (λ (l : List Part). l ++ later s.next) e
 
-    pub item_sound : SoundAt t (At i)
+    pub item_sound : SoundAt t (Some i)
     item_sound = (h.below, h.has)
 
     -- the item's first
     pub item_here : (all : List Part) → all ≡ later k → (f : FrameStep) → NextFrame ps (shown s.gift) (frames_at t i) 0 f → f.found ≡ true
-        → NextMissing t ps count places all (record { found = true; range = f.range; rest = record { at = At i; gift = s.gift; frame = f.frame; next = s.next } })
-    item_here all e f m y = tells i (record { at = At i; gift = s.gift; frame = 0; next = s.next }) item_sound h.normal f m y all (e ∙ item_left)
+        → NextMissing t ps count places all (record { found = true; range = f.range; rest = record { at = Some i; gift = s.gift; frame = f.frame; next = s.next } })
+    item_here all e f m y = tells i (record { at = Some i; gift = s.gift; frame = 0; next = s.next }) item_sound h.normal f m y all (e ∙ item_left)
 
 -- ---- how many there are at most: 16 for each commit
 

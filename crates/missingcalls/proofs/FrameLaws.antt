@@ -1,10 +1,10 @@
 -- The frames of a row and which of them are missing. A row's segment stands in it, in form, so that each frame read there is the rules' frame of that number. A frame meets a gift where
 -- the cut of its set by the gift has a window, and its first page is the lowest of its set. Assumes nothing.
-use Rattle.std.proofs.Common.{◌≡◌, ℕ, ◌+◌, ◌*◌, ◌^◌, ◌<◌, ◌≤◌, Bool, true, false, not, ◌&&◌, List, [], ◌∷◌, length, drop, sym, refl, ap, ◌∙◌, subst, arith, drop_of_length-le}
+use Rattle.std.proofs.Common.{◌≡◌, ℕ, ◌+◌, ◌*◌, ◌^◌, ◌<◌, ◌≤◌, Bool, true, false, not, ◌&&◌, List, [], ◌∷◌, length, drop, sym, refl, ap, ◌∙◌, subst, arith, drop_of_length-le, Option as Maybe}
 use mathlib.Core.Option.{Option, none, some}
+use Rattle.basics.specs.declared.pageidx.PageIdx.{PageIdx}
 use Rattle.octets.specs.Bytes.{part}
 use Rattle.basics.specs.Says.{maybe_page_says}
-use Rattle.basics.specs.declared.page_count.MaybePage.{MaybePage}
 use Rattle.pageset.specs.declared.PageSet.{PageSet}
 use Rattle.pageset.specs.Sets.{shown, member, normal}
 use Rattle.pageset.specs.Counts.{lowest}
@@ -117,7 +117,7 @@ module _ (ps : Table R.Present) (x : SegmentRange) (g r : PageSet) (e : normal x
   pub not_met : r.len ≡ 0 → false ≡ is_missing ps (shown g) (range_says x)
   not_met z = sym (meets true (is_empty_lem (shown r) (long ∙ z)))
 
-  module _ (n : r.len ≡ 0 → ⊥) (m : MaybePage) (k : maybe_page_says m ≡ lowest (member x.pages) (2 ^ 32)) where
+  module _ (n : r.len ≡ 0 → ⊥) (m : Maybe PageIdx) (k : maybe_page_says m ≡ lowest (member x.pages) (2 ^ 32)) where
     firsts : is_missing ps (shown g) (range_says x) ≡ absent ps x.sid (maybe_page_says m)
     firsts = meets false (not_empty (shown r) (λ z. n (sym long ∙ z))) ∙ ap (absent ps x.sid) (first_page_lem (shown x.pages) (form_of x.pages e) ∙ sym k)
 

@@ -1,5 +1,5 @@
 -- A listing of missing frames, one after another: what is left of it at a cursor, and what a step finds.
-use Rattle.std.specs.Prelude.{◌≡◌, ℕ, ◌<◌, Bool, true, false, List, [], ◌∷◌, ◌++◌, length, drop}
+use Rattle.std.specs.Prelude.{◌≡◌, ℕ, ◌<◌, Bool, true, false, List, [], ◌∷◌, ◌++◌, length, drop, Option, Some, None}
 use Rattle.pageset.specs.Sets.{shown, normal}
 use Rattle.pageset.specs.Says.{empty_set}
 use Rattle.rules.specs.Lists.{those, is_some}
@@ -11,8 +11,6 @@ use Rattle.table.specs.Table.{count_of}
 use Rattle.commit.specs.declared.SegmentRange.{SegmentRange}
 use Rattle.commit.specs.Says.{range_says, zero_range}
 use Rattle.commits.specs.Places.{commit_at}
-use Rattle.commits.specs.declared.Place.{Place}
-use Rattle.commits.specs.declared.Place.TheVariants.{At, Missing}
 use Rattle.gifts.specs.Steps.{segment_of, items_from}
 use Rattle.missingcalls.specs.declared.Cursor.{Cursor}
 use Rattle.missingcalls.specs.declared.Missing.{Missing as Step}
@@ -42,9 +40,9 @@ pub record NextFrame (ps : Table Present) (g : Pages) (fs : List Part) (j : ℕ)
 -- ---- cursors
 
 -- a record that is listed is one of the table, and has a segment
-abbrev pub SoundAt : List ℕ → Place → Type 0
-SoundAt t Missing = Unit {0}
-SoundAt t (At i) = (i < count_of t) × (is_some (commit_at t i).segment ≡ true)
+abbrev pub SoundAt : List ℕ → Option ℕ → Type 0
+SoundAt t None = Unit {0}
+SoundAt t (Some i) = (i < count_of t) × (is_some (commit_at t i).segment ≡ true)
 
 pub record Sound (t : List ℕ) (c : Cursor) : Type 0 where
   pub place : SoundAt t c.at
@@ -52,12 +50,12 @@ pub record Sound (t : List ℕ) (c : Cursor) : Type 0 where
 
 -- before the first
 abbrev pub start_cursor : Cursor
-start_cursor = record { at = Missing; gift = empty_set; frame = 0; next = 0 }
+start_cursor = record { at = None; gift = empty_set; frame = 0; next = 0 }
 
 -- what is left of the record that is listed
-abbrev pub left_at : List ℕ → Table Present → Place → Pages → ℕ → List Part
-left_at t ps Missing g j = []
-left_at t ps (At i) g j = frames_left ps g (frames_at t i) j
+abbrev pub left_at : List ℕ → Table Present → Option ℕ → Pages → ℕ → List Part
+left_at t ps None g j = []
+left_at t ps (Some i) g j = frames_left ps g (frames_at t i) j
 
 -- and then of the items from the next number of the path on
 unfoldable pub missing_left : List ℕ → Table Present → ℕ → List ℕ → Cursor → List Part

@@ -2,7 +2,7 @@
 // and, of each, over the frames where they stand: once to count, and once to put.
 #![tactic(auto)]
 
-ghost use Rattle.std.specs.Prelude.{◌≡◌, ◌+◌, ◌-◌, ◌/◌, ◌<◌, ◌≤◌, true, ◌&&◌, length, take};
+ghost use Rattle.std.specs.Prelude.{◌≡◌, ◌+◌, ◌-◌, ◌/◌, ◌<◌, ◌≤◌, true, ◌&&◌, length, take, Some};
 ghost use Rattle.octets.specs.Bytes.{put};
 ghost use Rattle.octets.specs.Flat.{flat};
 ghost use Rattle.pageset.specs.Sets.{shown, normal};
@@ -20,13 +20,14 @@ ghost use Rattle.missingcalls.specs.Entries.{entered, Entries};
 
 use arguments::Reply;
 use arguments::snapshots::snapshot_arg;
-use basics::page_count::{MaybePage, PageCount};
+use basics::page_count::PageCount;
 use commit::SegmentRange;
-use commits::{Place, commits_formed, row};
+use commits::{commits_formed, row};
 use entries::presence_formed;
 use gifts::next_set;
-use gifts::paths::{Path, path_of};
+use gifts::paths::Path;
 use layout::RANGE;
+use notes::Notes;
 use pageset::{PageSet, sets};
 use presence::is_present;
 use resultlists::snapshot_code;
@@ -37,7 +38,7 @@ use segmentbytes::range_write;
 // Where a listing stands: the record whose frames are listed, its gift, the number of its next frame, and the number of the path's next commit.
 #[derive(Clone, Copy)]
 pub struct Cursor {
-    pub at: Place,
+    pub at: Option<usize>,
     pub gift: PageSet,
     pub frame: usize,
     pub next: usize,
@@ -73,27 +74,25 @@ fn is_missing(presence: &[u8], range: SegmentRange, gift: PageSet) -> bool
     }
     let first = sets::first(pages);
     match first {
-        MaybePage::At(page) => !is_present(presence, sid, page),
-        MaybePage::Nothing => false,
+        Some(page) => !is_present(presence, sid, page),
+        None => false,
     }
 }
 
 // The next missing frame of record i, which has a segment, from a number on.
 fn next_frame(commits: &[u8], presence: &[u8], i: usize, gift: PageSet, from: usize) -> FrameStep
-    requires { (commits_ok commits.now ≡ true) × (presence_ok presence.now ≡ true) × SoundAt commits.now (Place.At i) × (normal gift ≡ true) }
+    requires { (commits_ok commits.now ≡ true) × (presence_ok presence.now ≡ true) × SoundAt commits.now (Some i) × (normal gift ≡ true) }
     ensures { NextFrame (presence_in presence.now) (shown gift) (frames_at commits.now i) from result }
 {
     let at = row(commits, i) + 63;
     let n = frames_count(commits, at + 401);
-    let mut j = from;
-    while j < n {
+    for j in from..n {
         let range = frame_in(commits, at, j);
-        j += 1;
         if is_missing(presence, range, gift) {
             return FrameStep {
                 found: true,
                 range,
-                frame: j,
+                frame: j + 1,
             };
         }
     }
@@ -101,7 +100,7 @@ fn next_frame(commits: &[u8], presence: &[u8], i: usize, gift: PageSet, from: us
     FrameStep {
         found: false,
         range: none,
-        frame: j,
+        frame: n,
     }
 }
 
@@ -110,16 +109,12 @@ fn next_item(commits: &[u8], presence: &[u8], path: Path, count: PageCount, from
     requires { (commits_ok commits.now ≡ true) × (presence_ok presence.now ≡ true) × Inside commits.now (places_in path.runs) }
     ensures { NextMissing commits.now (presence_in presence.now) count.0 (places_in path.runs) (missing_of (presence_in presence.now) (items_from commits.now count.0 (places_in path.runs) from)) result }
 {
-    let mut tags = [4294967295u32; 64];
-    let mut masks = [0u64; 64];
-    let mut marks = [18446744073709551615u64; 64];
+    let mut notes = Notes::unknowing();
     let mut next = from;
     loop {
-        let step = next_set(
-            commits, path, count, next, &mut tags, &mut masks, &mut marks,
-        );
+        let step = next_set(commits, path, count, next, &mut notes);
         let at = step.at;
-        let Place::At(i) = at else {
+        let Some(i) = at else {
             let range = SegmentRange::zero();
             return Missing {
                 found: false,
@@ -134,7 +129,7 @@ fn next_item(commits: &[u8], presence: &[u8], path: Path, count: PageCount, from
             let range = f.range;
             let frame = f.frame;
             let rest = Cursor {
-                at: Place::At(i),
+                at: Some(i),
                 gift,
                 frame,
                 next,
@@ -154,7 +149,7 @@ pub fn start() -> Cursor
 {
     let gift = sets::empty();
     Cursor {
-        at: Place::Missing,
+        at: None,
         gift,
         frame: 0,
         next: 0,
@@ -175,7 +170,7 @@ pub fn next_missing(
     let at = c.at;
     let gift = c.gift;
     let next = c.next;
-    let Place::At(i) = at else {
+    let Some(i) = at else {
         return next_item(commits, presence, path, count, next);
     };
     let f = next_frame(commits, presence, i, gift, c.frame);
@@ -185,7 +180,7 @@ pub fn next_missing(
     let range = f.range;
     let frame = f.frame;
     let rest = Cursor {
-        at: Place::At(i),
+        at: Some(i),
         gift,
         frame,
         next,
@@ -227,7 +222,7 @@ fn put_frames(
     list: &mut [u8],
     from: usize,
 ) -> usize
-    requires commits_value { (commits_ok commits.now ≡ true) × (presence_ok presence.now ≡ true) × SoundAt commits.now (Place.At i) × (normal gift ≡ true) }
+    requires commits_value { (commits_ok commits.now ≡ true) × (presence_ok presence.now ≡ true) × SoundAt commits.now (Some i) × (normal gift ≡ true) }
     requires from_bound { from < 4294967296 }
     ensures value { result ≡ from + length (frames_left (presence_in presence.now) (shown gift) (frames_at commits.now i) 0) }
     ensures entries { Entries from (take (length list.old / 417 - from) (frames_left (presence_in presence.now) (shown gift) (frames_at commits.now i) 0)) list.old list.new }
@@ -235,10 +230,8 @@ fn put_frames(
     let at = row(commits, i) + 63;
     let n = frames_count(commits, at + 401);
     let mut to = from;
-    let mut j: usize = 0;
-    while j < n {
+    for j in 0..n {
         to = put_frame(presence, gift, frame_in(commits, at, j), list, to);
-        j += 1;
     }
     to
 }
@@ -249,15 +242,13 @@ fn count_missing(commits: &[u8], presence: &[u8], path: Path, count: PageCount) 
     ensures { result ≡ length (missing_of (presence_in presence.now) (items_from commits.now count.0 (places_in path.runs) 0)) }
 {
     let mut none = [0u8; 1];
-    let mut tags = [0u32; 64];
-    let mut masks = [0u64; 64];
-    let mut marks = [0u64; 64];
+    let mut notes = Notes::new();
     let mut k: usize = 0;
     let mut n: usize = 0;
     loop {
-        let step = next_set(commits, path, count, k, &mut tags, &mut masks, &mut marks);
+        let step = next_set(commits, path, count, k, &mut notes);
         let at = step.at;
-        let Place::At(i) = at else {
+        let Some(i) = at else {
             return n;
         };
         n = put_frames(commits, presence, i, step.gift, &mut none, n);
@@ -278,15 +269,13 @@ fn put_missing(
     ensures value { (result ≡ length (missing_of (presence_in presence.now) (items_from commits.now count.0 (places_in path.runs) 0))) × (result < 4294967296) }
     ensures list_after { list.new ≡ put 0 (flat part_bytes.spell (missing_of (presence_in presence.now) (items_from commits.now count.0 (places_in path.runs) 0))) list.old }
 {
-    let mut tags = [0u32; 64];
-    let mut masks = [0u64; 64];
-    let mut marks = [0u64; 64];
+    let mut notes = Notes::new();
     let mut k: usize = 0;
     let mut n: usize = 0;
     loop {
-        let step = next_set(commits, path, count, k, &mut tags, &mut masks, &mut marks);
+        let step = next_set(commits, path, count, k, &mut notes);
         let at = step.at;
-        let Place::At(i) = at else {
+        let Some(i) = at else {
             return n;
         };
         n = put_frames(commits, presence, i, step.gift, list, n);
@@ -315,7 +304,7 @@ pub fn missing_frames(
         return Reply { code, found: 0 };
     }
     let s = snapshot_arg(snapshot);
-    let path = path_of(commits, s);
+    let path = Path::of(commits, s);
     let count = s.count;
     if list.len() / RANGE < count_missing(commits, presence, path, count) {
         return Reply { code: 19, found: 0 };

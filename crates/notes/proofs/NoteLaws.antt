@@ -1,21 +1,21 @@
 -- The notes after one more window is met. A page of another window is held as before, one of this window if it was or if the new mask has it. Places of other numbers modulo 64 have other
 -- windows, so only the window's own place can need a change; marks are only added, so a window without one was without one before, and is not the window met.
 use Prim.Native.Nat.{ℕ, zero, suc, ◌+◌, ◌*◌, ◌/◌, ◌%◌, ◌^◌, ◌<◌, ◌≤◌}
-use mathlib.Core.Path.{◌≡◌, refl, sym, ap, ap₂, ◌∙◌, subst}
-use mathlib.Core.Bool.{Bool, true, false, ◌&&◌, ◌||◌, or-false, or-true}
+use mathlib.Core.Path.{◌≡◌, refl, sym, ap, ◌∙◌, subst}
+use mathlib.Core.Bool.{Bool, true, false, ◌||◌, or-false, or-true}
 use mathlib.Core.List.{List}
 use native.Mathlib.Nat.{one-mul}
 use native.Mathlib.Omega.{arith}
 use native.Mathlib.Decide.{ℕ_discrete}
 use borrow.Author.Tests.{eq-eqb, ne_eqb, lt-ltb}
 use lib.Bits.{bit_or, shifted_half}
-use lib.Dec.{eqb}
-use lib.ListN.{length, get_or, set, replicate, length-set, length-replicate}
+use Rattle.std.specs.Prelude.{Some}
+use lib.ListN.{length, get_or, set, replicate}
 use lib.Seq.{get_or-set_same, get_or-set_other}
 use Rattle.pageset.specs.Sets.{bit}
 use Rattle.pageset.proofs.FormLaws.{clash}
 use Rattle.pageset.proofs.BitLaws.{bit_suc, bit_or_lem, bit_none, bit_ones, shl_one}
-use Rattle.notes.specs.declared.Told.{Told}
+use Rattle.notes.specs.declared.Notes.{Notes}
 use Rattle.notes.specs.Known.{marked, Of, Known, Tells, and_held}
 
 neither_left : (a b : Bool) → a || b ≡ false → a ≡ false
@@ -42,7 +42,7 @@ module _ (held : ℕ → Bool) (q mask : ℕ) where
       let m : (q * 64 + b) % 64 ≡ b = omega arith in
       rw (d, m, eq-eqb q q refl)
 
-  module _ (tags masks marks : List ℕ) (k : Known held tags masks marks) where
+  module _ (n : Notes) (places : length n.tags ≡ 64) (pages : length n.masks ≡ 64) (words : length n.marks ≡ 64) (k : Known held n) where
     abbrev at : ℕ
     at = q % 64
 
@@ -50,78 +50,72 @@ module _ (held : ℕ → Bool) (q mask : ℕ) where
     word = q / 64 % 64
 
     abbrev marks' : List ℕ
-    marks' = set marks word (bit_or (get_or marks word 0) (1 * 2 ^ (q % 64) % 18446744073709551616))
+    marks' = set n.marks word (bit_or (get_or n.marks word 0) (1 * 2 ^ (q % 64) % 18446744073709551616))
 
     -- ---- marks
 
-    inside : word < length marks
-    inside = omega (arith, k.words)
+    inside : word < length n.marks
+    inside = omega (arith, words)
 
     own_mark : marked marks' q ≡ true
     own_mark =
-        ap (λ (w : ℕ). bit w (q % 64)) (get_or-set_same marks word (bit_or (get_or marks word 0) (1 * 2 ^ (q % 64) % 18446744073709551616)) 0 inside)
-        ∙ bit_or_lem (get_or marks word 0) (1 * 2 ^ (q % 64) % 18446744073709551616) (q % 64)
-        ∙ ap (λ (b : Bool). bit (get_or marks word 0) (q % 64) || b) (ap (λ (w : ℕ). bit w (q % 64)) (shl_one 64 (q % 64) (omega arith) ∙ sym (one-mul (2 ^ (q % 64)))) ∙ bit_power (q % 64))
-        ∙ or-true (bit (get_or marks word 0) (q % 64))
+        ap (λ (w : ℕ). bit w (q % 64)) (get_or-set_same n.marks word (bit_or (get_or n.marks word 0) (1 * 2 ^ (q % 64) % 18446744073709551616)) 0 inside)
+        ∙ bit_or_lem (get_or n.marks word 0) (1 * 2 ^ (q % 64) % 18446744073709551616) (q % 64)
+        ∙ ap (λ (b : Bool). bit (get_or n.marks word 0) (q % 64) || b) (ap (λ (w : ℕ). bit w (q % 64)) (shl_one 64 (q % 64) (omega arith) ∙ sym (one-mul (2 ^ (q % 64)))) ∙ bit_power (q % 64))
+        ∙ or-true (bit (get_or n.marks word 0) (q % 64))
 
-    kept_mark : (p : ℕ) → marked marks' p ≡ false → marked marks p ≡ false
+    kept_mark : (p : ℕ) → marked marks' p ≡ false → marked n.marks p ≡ false
     kept_mark p e = go (ℕ_discrete (p / 64 % 64) word)
       where
-        go : Dec (p / 64 % 64 ≡ word) → marked marks p ≡ false
+        go : Dec (p / 64 % 64 ≡ word) → marked n.marks p ≡ false
         go (yes z) =
-            let f = sym (ap (λ (w : ℕ). bit w (p % 64)) (ap (λ (i : ℕ). get_or marks' i 0) z ∙ get_or-set_same marks word (bit_or (get_or marks word 0) (1 * 2 ^ (q % 64) % 18446744073709551616)) 0 inside) ∙ bit_or_lem (get_or marks word 0) (1 * 2 ^ (q % 64) % 18446744073709551616) (p % 64)) ∙ e in
-            ap (λ (i : ℕ). bit (get_or marks i 0) (p % 64)) z ∙ neither_left (bit (get_or marks word 0) (p % 64)) (bit (1 * 2 ^ (q % 64) % 18446744073709551616) (p % 64)) f
-        go (no n) = ap (λ (w : ℕ). bit w (p % 64)) (sym (get_or-set_other marks word (p / 64 % 64) (bit_or (get_or marks word 0) (1 * 2 ^ (q % 64) % 18446744073709551616)) 0 n)) ∙ e
+            let f = sym (ap (λ (w : ℕ). bit w (p % 64)) (ap (λ (i : ℕ). get_or marks' i 0) z ∙ get_or-set_same n.marks word (bit_or (get_or n.marks word 0) (1 * 2 ^ (q % 64) % 18446744073709551616)) 0 inside) ∙ bit_or_lem (get_or n.marks word 0) (1 * 2 ^ (q % 64) % 18446744073709551616) (p % 64)) ∙ e in
+            ap (λ (i : ℕ). bit (get_or n.marks i 0) (p % 64)) z ∙ neither_left (bit (get_or n.marks word 0) (p % 64)) (bit (1 * 2 ^ (q % 64) % 18446744073709551616) (p % 64)) f
+        go (no d) = ap (λ (w : ℕ). bit w (p % 64)) (sym (get_or-set_other n.marks word (p / 64 % 64) (bit_or (get_or n.marks word 0) (1 * 2 ^ (q % 64) % 18446744073709551616)) 0 d)) ∙ e
 
     -- a window that has no mark now has no page that is held
     free' : (p : ℕ) → marked marks' p ≡ false → Of (and_held held q mask) p 0
     free' p e b l = k.free p (kept_mark p e) b l ∙ sym (other_page p b l (λ z. clash (marked marks' q) own_mark (ap (λ (x : ℕ). marked marks' x) (sym z) ∙ e)))
 
     -- a place of another number has another window
-    elsewhere : (s : ℕ) → s < 64 → (s ≡ at → ⊥) → Of (and_held held q mask) (get_or tags s 0 * 64 + s) (get_or masks s 0)
-    elsewhere s l n b h = k.exact s l b h ∙ sym (other_page (get_or tags s 0 * 64 + s) b h (λ z. n (omega arith)))
-
-    words' : length marks' ≡ 64
-    words' = length-set marks word (bit_or (get_or marks word 0) (1 * 2 ^ (q % 64) % 18446744073709551616)) ∙ k.words
+    elsewhere : (s : ℕ) → s < 64 → (s ≡ at → ⊥) → Of (and_held held q mask) (get_or n.tags s 0 * 64 + s) (get_or n.masks s 0)
+    elsewhere s l d b h = k.exact s l b h ∙ sym (other_page (get_or n.tags s 0 * 64 + s) b h (λ z. d (omega arith)))
 
     -- ---- the window is in its place
 
-    module _ (e : get_or tags at 0 ≡ q / 64) where
-      here : get_or tags at 0 * 64 + at ≡ q
+    module _ (e : get_or n.tags at 0 ≡ q / 64) where
+      here : get_or n.tags at 0 * 64 + at ≡ q
       here = omega arith
 
-      pub told_here : Tells held q (record { known = true; mask = get_or masks at 0 })
-      told_here z b l = k.exact at (omega arith) b l ∙ ap (λ (x : ℕ). held (x * 64 + b)) here
+      pub told_here : Tells held q (Some (get_or n.masks at 0))
+      told_here b l = k.exact at (omega arith) b l ∙ ap (λ (x : ℕ). held (x * 64 + b)) here
 
-      pub noted_here : Known (and_held held q mask) tags (set masks at (bit_or (get_or masks at 0) mask)) marks'
+      pub noted_here : Known (and_held held q mask) (record { tags = n.tags; masks = set n.masks at (bit_or (get_or n.masks at 0) mask); marks = marks' })
       noted_here = record {
-        places = k.places;
-        pages = length-set masks at (bit_or (get_or masks at 0) mask) ∙ k.pages;
-        words = words';
         exact = λ s l. go s l (ℕ_discrete s at);
         free = free';
       }
         where
-          own : Of (and_held held q mask) (get_or tags at 0 * 64 + at) (get_or (set masks at (bit_or (get_or masks at 0) mask)) at 0)
+          own : Of (and_held held q mask) (get_or n.tags at 0 * 64 + at) (get_or (set n.masks at (bit_or (get_or n.masks at 0) mask)) at 0)
           own b l =
-              ap (λ (m : ℕ). bit m b) (get_or-set_same masks at (bit_or (get_or masks at 0) mask) 0 (omega (arith, k.pages)))
-              ∙ bit_or_lem (get_or masks at 0) mask b
-              ∙ ap (λ (h : Bool). h || bit mask b) (told_here refl b l)
+              ap (λ (m : ℕ). bit m b) (get_or-set_same n.masks at (bit_or (get_or n.masks at 0) mask) 0 (omega (arith, pages)))
+              ∙ bit_or_lem (get_or n.masks at 0) mask b
+              ∙ ap (λ (h : Bool). h || bit mask b) (told_here b l)
               ∙ sym (own_page b l)
               ∙ ap (λ (x : ℕ). and_held held q mask (x * 64 + b)) (sym here)
 
-          go : (s : ℕ) → s < 64 → Dec (s ≡ at) → Of (and_held held q mask) (get_or tags s 0 * 64 + s) (get_or (set masks at (bit_or (get_or masks at 0) mask)) s 0)
-          go s l (yes z) = subst (λ (x : ℕ). Of (and_held held q mask) (get_or tags x 0 * 64 + x) (get_or (set masks at (bit_or (get_or masks at 0) mask)) x 0)) (sym z) own
-          go s l (no n) = λ b h. ap (λ (m : ℕ). bit m b) (get_or-set_other masks at s (bit_or (get_or masks at 0) mask) 0 n) ∙ elsewhere s l n b h
+          go : (s : ℕ) → s < 64 → Dec (s ≡ at) → Of (and_held held q mask) (get_or n.tags s 0 * 64 + s) (get_or (set n.masks at (bit_or (get_or n.masks at 0) mask)) s 0)
+          go s l (yes z) = subst (λ (x : ℕ). Of (and_held held q mask) (get_or n.tags x 0 * 64 + x) (get_or (set n.masks at (bit_or (get_or n.masks at 0) mask)) x 0)) (sym z) own
+          go s l (no d) = λ b h. ap (λ (m : ℕ). bit m b) (get_or-set_other n.masks at s (bit_or (get_or n.masks at 0) mask) 0 d) ∙ elsewhere s l d b h
 
     -- ---- another window is in its place
 
-    module _ (n : get_or tags at 0 ≡ q / 64 → ⊥) where
-      pub noted_nowhere : Known (and_held held q mask) tags masks marks'
-      noted_nowhere = record { places = k.places; pages = k.pages; words = words'; exact = λ s l. go s l (ℕ_discrete s at); free = free' }
+    module _ (other : get_or n.tags at 0 ≡ q / 64 → ⊥) where
+      pub noted_nowhere : Known (and_held held q mask) (record { tags = n.tags; masks = n.masks; marks = marks' })
+      noted_nowhere = record { exact = λ s l. go s l (ℕ_discrete s at); free = free' }
         where
-          go : (s : ℕ) → s < 64 → Dec (s ≡ at) → Of (and_held held q mask) (get_or tags s 0 * 64 + s) (get_or masks s 0)
-          go s l (yes z) b h = k.exact s l b h ∙ sym (other_page (get_or tags s 0 * 64 + s) b h (λ y. n (ap (λ (x : ℕ). get_or tags x 0) (sym z) ∙ whole (get_or tags s 0) s l y)))
+          go : (s : ℕ) → s < 64 → Dec (s ≡ at) → Of (and_held held q mask) (get_or n.tags s 0 * 64 + s) (get_or n.masks s 0)
+          go s l (yes z) b h = k.exact s l b h ∙ sym (other_page (get_or n.tags s 0 * 64 + s) b h (λ y. other (ap (λ (x : ℕ). get_or n.tags x 0) (sym z) ∙ whole (get_or n.tags s 0) s l y)))
             where
               whole : (t s : ℕ) → s < 64 → t * 64 + s ≡ q → t ≡ q / 64
               whole t s l y = omega arith
@@ -129,44 +123,38 @@ module _ (held : ℕ → Bool) (q mask : ℕ) where
 
     -- ---- a window that was not met
 
-    module _ (e : marked marks q ≡ false) where
-      pub told_free : Tells held q (record { known = true; mask = 0 })
-      told_free z = k.free q e
+    module _ (e : marked n.marks q ≡ false) where
+      pub told_free : Tells held q (Some 0)
+      told_free = k.free q e
 
-      pub noted_free : Known (and_held held q mask) (set tags at (q / 64)) (set masks at mask) marks'
+      pub noted_free : Known (and_held held q mask) (record { tags = set n.tags at (q / 64); masks = set n.masks at mask; marks = marks' })
       noted_free = record {
-        places = length-set tags at (q / 64) ∙ k.places;
-        pages = length-set masks at mask ∙ k.pages;
-        words = words';
         exact = λ s l. go s l (ℕ_discrete s at);
         free = free';
       }
         where
-          here : get_or (set tags at (q / 64)) at 0 * 64 + at ≡ q
-          here = let f = get_or-set_same tags at (q / 64) 0 (omega (arith, k.places)) in omega arith
+          here : get_or (set n.tags at (q / 64)) at 0 * 64 + at ≡ q
+          here = let f = get_or-set_same n.tags at (q / 64) 0 (omega (arith, places)) in omega arith
 
-          own : Of (and_held held q mask) (get_or (set tags at (q / 64)) at 0 * 64 + at) (get_or (set masks at mask) at 0)
+          own : Of (and_held held q mask) (get_or (set n.tags at (q / 64)) at 0 * 64 + at) (get_or (set n.masks at mask) at 0)
           own b l =
-              ap (λ (m : ℕ). bit m b) (get_or-set_same masks at mask 0 (omega (arith, k.pages)))
+              ap (λ (m : ℕ). bit m b) (get_or-set_same n.masks at mask 0 (omega (arith, pages)))
               ∙ ap (λ (h : Bool). h || bit mask b) (sym (bit_none b) ∙ k.free q e b l)
               ∙ sym (own_page b l)
               ∙ ap (λ (x : ℕ). and_held held q mask (x * 64 + b)) (sym here)
 
-          go : (s : ℕ) → s < 64 → Dec (s ≡ at) → Of (and_held held q mask) (get_or (set tags at (q / 64)) s 0 * 64 + s) (get_or (set masks at mask) s 0)
-          go s l (yes z) = subst (λ (x : ℕ). Of (and_held held q mask) (get_or (set tags at (q / 64)) x 0 * 64 + x) (get_or (set masks at mask) x 0)) (sym z) own
-          go s l (no n) = λ b h.
-              ap (λ (m : ℕ). bit m b) (get_or-set_other masks at s mask 0 n)
-              ∙ elsewhere s l n b h
-              ∙ ap (λ (t : ℕ). and_held held q mask ((t * 64 + s) * 64 + b)) (sym (get_or-set_other tags at s (q / 64) 0 n))
+          go : (s : ℕ) → s < 64 → Dec (s ≡ at) → Of (and_held held q mask) (get_or (set n.tags at (q / 64)) s 0 * 64 + s) (get_or (set n.masks at mask) s 0)
+          go s l (yes z) = subst (λ (x : ℕ). Of (and_held held q mask) (get_or (set n.tags at (q / 64)) x 0 * 64 + x) (get_or (set n.masks at mask) x 0)) (sym z) own
+          go s l (no d) = λ b h.
+              ap (λ (m : ℕ). bit m b) (get_or-set_other n.masks at s mask 0 d)
+              ∙ elsewhere s l d b h
+              ∙ ap (λ (t : ℕ). and_held held q mask ((t * 64 + s) * 64 + b)) (sym (get_or-set_other n.tags at s (q / 64) 0 d))
 
 -- ---- notes of the same pages, of none, and of any
 
-pub known_same : (f g : ℕ → Bool) (tags masks marks : List ℕ) → ((p : ℕ) → f p ≡ g p) → Known f tags masks marks → Known g tags masks marks
-known_same f g tags masks marks e k = record {
-  places = k.places;
-  pages = k.pages;
-  words = k.words;
-  exact = λ s l b h. k.exact s l b h ∙ e ((get_or tags s 0 * 64 + s) * 64 + b);
+pub known_same : (f g : ℕ → Bool) (n : Notes) → ((p : ℕ) → f p ≡ g p) → Known f n → Known g n
+known_same f g n e k = record {
+  exact = λ s l b h. k.exact s l b h ∙ e ((get_or n.tags s 0 * 64 + s) * 64 + b);
   free = λ q z b h. k.free q z b h ∙ e (q * 64 + b);
 }
 
@@ -177,22 +165,17 @@ alike x (suc n) zero h = refl
 alike x (suc n) (suc i) h = alike x n i (omega arith)
 
 -- fresh notes, while no page is held
-pub known_none : Known (λ p. false) (replicate 64 0) (replicate 64 0) (replicate 64 0)
+pub known_none : Known (λ p. false) (record { tags = replicate 64 0; masks = replicate 64 0; marks = replicate 64 0 })
 known_none = record {
-  places = length-replicate {A = ℕ} 64 0;
-  pages = length-replicate {A = ℕ} 64 0;
-  words = length-replicate {A = ℕ} 64 0;
   exact = λ s l b h. ap (λ (m : ℕ). bit m b) (alike 0 64 s l) ∙ bit_none b;
   free = λ q z b h. bit_none b;
 }
 
 -- notes that know nothing: each place has a window past the last, and each mark is set
-pub known_nothing : (held : ℕ → Bool) → ((p : ℕ) → 4294967296 ≤ p → held p ≡ false) → Known held (replicate 64 4294967295) (replicate 64 0) (replicate 64 18446744073709551615)
-known_nothing held none = record {
-  places = length-replicate {A = ℕ} 64 4294967295;
-  pages = length-replicate {A = ℕ} 64 0;
-  words = length-replicate {A = ℕ} 64 18446744073709551615;
-  exact = λ s l b h. ap (λ (m : ℕ). bit m b) (alike 0 64 s l) ∙ bit_none b ∙ sym (none ((get_or (replicate 64 4294967295) s 0 * 64 + s) * 64 + b) (let e = alike 4294967295 64 s l in omega arith));
+pub known_nothing : (held : ℕ → Bool) → ((p : ℕ) → 4294967296 ≤ p → held p ≡ false)
+    → Known held (record { tags = replicate 64 4294967295; masks = replicate 64 0; marks = replicate 64 18446744073709551615 })
+known_nothing held past = record {
+  exact = λ s l b h. ap (λ (m : ℕ). bit m b) (alike 0 64 s l) ∙ bit_none b ∙ sym (past ((get_or (replicate 64 4294967295) s 0 * 64 + s) * 64 + b) (let e = alike 4294967295 64 s l in omega arith));
   free = λ q z. absurd (clash (marked (replicate 64 18446744073709551615) q) (set_mark q) z);
 }
   where

@@ -3,46 +3,61 @@
 // window whose mark (its number modulo 4,096) is not set has no page that is held.
 #![tactic(auto)]
 
-ghost use Rattle.std.specs.Prelude.{◌≡◌, length};
-ghost use Rattle.notes.specs.Known.{AsNoted};
+ghost use Rattle.std.specs.Prelude.{◌≡◌, ℕ, ◌≤◌, Bool, false};
+ghost use Rattle.notes.specs.Known.{Known, AsNoted};
 
 use pageset::bits::has_bit;
 
-// What the notes tell of a window: the pages of it that were held before; or that they do not know.
+// The notes of a walk.
 #[derive(Clone, Copy)]
-pub struct Told {
-    pub known: bool,
-    pub mask: u64,
+pub struct Notes {
+    tags: [u32; 64],
+    masks: [u64; 64],
+    marks: [u64; 64],
 }
 
-// Notes that a commit holds these pages of a window, and tells what was known of the window before. A window that was not met yet moves into its place.
-pub fn note(tags: &mut [u32], masks: &mut [u64], marks: &mut [u64], index: u32, mask: u64) -> Told
-    requires { (length tags.old ≡ 64) × (length masks.old ≡ 64) × (length marks.old ≡ 64) }
-    ensures { AsNoted index mask tags.old masks.old marks.old tags.new masks.new marks.new result }
-{
-    let at = (index % 64) as usize;
-    let tag = index / 64;
-    let word = (index / 64 % 64) as usize;
-    let marked = has_bit(marks[word], index % 64);
-    marks[word] = marks[word] | 1u64 << (index % 64);
-    if tags[at] == tag {
-        let was = masks[at];
-        masks[at] = was | mask;
-        return Told {
-            known: true,
-            mask: was,
-        };
+impl Notes {
+    // The notes while no page is held.
+    pub fn new() -> Notes
+        ensures { Known (λ p. false) result }
+    {
+        Notes {
+            tags: [0; 64],
+            masks: [0; 64],
+            marks: [0; 64],
+        }
     }
-    if marked {
-        return Told {
-            known: false,
-            mask: 0,
-        };
+
+    // Notes that know nothing, whatever pages are held: each place has a window past the last, and each mark is set.
+    pub fn unknowing() -> Notes
+        ensures { (held : ℕ → Bool) → ((p : ℕ) → 4294967296 ≤ p → held p ≡ false) → Known held result }
+    {
+        Notes {
+            tags: [u32::MAX; 64],
+            masks: [0; 64],
+            marks: [u64::MAX; 64],
+        }
     }
-    tags[at] = tag;
-    masks[at] = mask;
-    Told {
-        known: true,
-        mask: 0,
+
+    // Notes that a commit holds these pages of a window, and tells the pages of the window that were held before; none where it does not know. A window that was not met yet moves into its place.
+    pub fn note(&mut self, index: u32, mask: u64) -> Option<u64>
+        ensures { AsNoted index mask self.old self.new result }
+    {
+        let at = (index % 64) as usize;
+        let tag = index / 64;
+        let word = (index / 64 % 64) as usize;
+        let marked = has_bit(self.marks[word], index % 64);
+        self.marks[word] |= 1u64 << (index % 64);
+        if self.tags[at] == tag {
+            let held = self.masks[at];
+            self.masks[at] = held | mask;
+            return Some(held);
+        }
+        if marked {
+            return None;
+        }
+        self.tags[at] = tag;
+        self.masks[at] = mask;
+        Some(0)
     }
 }

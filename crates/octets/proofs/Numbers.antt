@@ -1,6 +1,6 @@
 -- The laws of `be`, `bytes_of` and `down`. Everything follows from `be` of two runs joined, and from `bytes_of` cut in two.
 use mathlib.Core.Path.{◌≡◌, refl, sym, ap, ap₂, ◌∙◌}
-use mathlib.Core.List.{List, [], ◌∷◌, ◌++◌, reverse, reverse-reverse}
+use mathlib.Core.List.{List, [], ◌∷◌, ◌++◌}
 use Prim.Native.Nat.{ℕ, zero, suc, ◌+◌, ◌-◌, ◌*◌, ◌/◌, ◌%◌, ◌^◌, ◌<◌}
 use native.Mathlib.Nat.{pow-suc, pow-succ', add-mul, mul_assoc, add_assoc, zero-mul, zero-add, suc-add, mod-one, mod-lt, mod-eq_of_lt, mul-add-div_right, mul-add-mod_self_right, div-div-eq-div-mul, div-add-mod', mul_comm, div-one}
 use native.Mathlib.Omega.{arith}
@@ -8,6 +8,7 @@ use lib.ListN.{length, length-append}
 use lib.Pow.{pow-add}
 use lib.Arith.{digits_lt, digits_div, mod-mul}
 use lib.Dec.{lit<}
+use Rattle.std.specs.Int.{bytes_high_first}
 use Rattle.octets.specs.Bytes.{be, bytes_of, down, AreBytes}
 
 -- ---- the number that bytes spell
@@ -26,10 +27,6 @@ be_append (x ∷ xs) ys =
 pub be_one : (x : ℕ) → be (x ∷ []) ≡ x
 unfolding be
 be_one x = omega arith
-
--- one byte more at the end
-pub be_snoc : (xs : List ℕ) (x : ℕ) → be (xs ++ (x ∷ [])) ≡ be xs * 256 + x
-be_snoc xs x = be_append xs (x ∷ []) ∙ ap (λ (n : ℕ). be xs * 256 + n) (be_one x)
 
 -- k bytes spell a number below 256 ^ k
 pub be_lt : (xs : List ℕ) → AreBytes xs → be xs < 256 ^ length xs
@@ -118,33 +115,15 @@ unfolding down
 down_be xs b =
     ap (bytes_of (length xs)) (complement_twice (256 ^ length xs) (be xs) (be_lt xs b)) ∙ bytes_of_be xs b
 
--- ---- four bytes from the last to the first
+-- ---- the library's words for numbers as bytes
 
-four_bytes : (a b c d : ℕ) → a < 256 → b < 256 → c < 256 → d < 256 → AreBytes (a ∷ b ∷ c ∷ d ∷ [])
-four_bytes a b c d p q r t zero = p
-four_bytes a b c d p q r t (suc zero) = q
-four_bytes a b c d p q r t (suc (suc zero)) = r
-four_bytes a b c d p q r t (suc (suc (suc zero))) = t
-four_bytes a b c d p q r t (suc (suc (suc (suc i)))) = lit< tt
-
-spelled : (a b c d : ℕ) → d * 16777216 + c * 65536 + b * 256 + a ≡ be (d ∷ c ∷ b ∷ a ∷ [])
-unfolding be
-spelled a b c d = omega arith
-
--- the number that has the first byte as its lowest
-pub lowest_first : (a b c d : ℕ) → a < 256 → b < 256 → c < 256 → d < 256 → bytes_of 4 (a + 256 * (b + 256 * (c + 256 * d))) ≡ reverse (a ∷ b ∷ c ∷ d ∷ [])
-lowest_first a b c d p q r t =
-    let e : a + 256 * (b + 256 * (c + 256 * d)) ≡ be (d ∷ c ∷ b ∷ a ∷ []) = omega (arith, spelled a b c d) in
-    ap (bytes_of 4) e ∙ bytes_of_be (d ∷ c ∷ b ∷ a ∷ []) (four_bytes d c b a t r q p)
-
--- the number that has the last byte of v as its highest
-pub last_first : (v : ℕ) → v < 2 ^ 32 → v % 256 * 16777216 + v / 256 % 256 * 65536 + v / 65536 % 256 * 256 + v / 16777216 ≡ be (reverse (bytes_of 4 v))
+-- the bytes of a number are those of `to_be_bytes`
+pub bytes_high : (k v : ℕ) → bytes_high_first k v ≡ bytes_of k v
 unfolding bytes_of
-last_first v h =
-    let top : v / 16777216 < 256 = omega arith in
-    spelled (v / 16777216) (v / 65536 % 256) (v / 256 % 256) (v % 256)
-    ∙ ap₂ (λ (x y : ℕ). be (x ∷ v / 256 % 256 ∷ v / 65536 % 256 ∷ y ∷ [])) (sym (ap (λ (n : ℕ). n % 256) (div-one v))) (sym (mod-eq_of_lt top))
+bytes_high zero v = refl
+bytes_high (suc zero) v = ap (λ (n : ℕ). n % 256 ∷ []) (sym (div-one v))
+bytes_high (suc (suc k)) v = ap (λ (l : List ℕ). v / 256 ^ suc k % 256 ∷ l) (bytes_high (suc k) v)
 
--- bytes turned twice
-pub turned_twice : (v : ℕ) (xs : List ℕ) → bytes_of 4 v ≡ reverse xs → be (reverse (bytes_of 4 v)) ≡ be xs
-turned_twice v xs e = ap (λ (l : List ℕ). be (reverse l)) e ∙ ap be (reverse-reverse xs)
+-- so a number with these bytes is what they spell
+pub spelled : (k v : ℕ) (xs : List ℕ) → v < 256 ^ k → bytes_high_first k v ≡ xs → v ≡ be xs
+spelled k v xs h e = sym (be_bytes_of k v h) ∙ ap be (sym (bytes_high k v) ∙ e)

@@ -14,8 +14,7 @@ use lib.Dec.{eqb}
 use borrow.Author.Tests.{lt-ltb, le-ltb, eq-eqb, ne_eqb}
 use Rattle.octets.specs.Bytes.{be, bytes_of, down, part, AreBytes}
 use Rattle.octets.specs.Order.{order, then_by, lex, turned, ordering, is_less, is_equal}
-use Rattle.octets.specs.declared.Order.{Order}
-use Rattle.octets.specs.declared.Order.TheVariants.{Less, Equal, Greater}
+use Rattle.std.proofs.Common.{Ordering as Order, Less, Equal, Greater}
 use Rattle.octets.proofs.Numbers as N
 use Rattle.octets.proofs.Places as P
 

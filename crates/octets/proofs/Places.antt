@@ -1,18 +1,20 @@
 -- The laws of `part` and `put`: lengths, a part of a part, a part of what was put, several puts, and the number at a place.
 use mathlib.Core.Path.{◌≡◌, refl, sym, ap, ap₂, ◌∙◌, subst}
 use mathlib.Core.Bool.{Bool, true, false, cond}
-use mathlib.Core.List.{List, [], ◌∷◌, ◌++◌, append_assoc, append-nil, reverse}
-use Prim.Native.Nat.{ℕ, zero, suc, ◌+◌, ◌-◌, ◌*◌, ◌/◌, ◌%◌, ◌^◌, ◌≤◌, ◌<◌}
+use mathlib.Core.List.{List, [], ◌∷◌, ◌++◌, append_assoc, append-nil}
+use Prim.Native.Nat.{ℕ, zero, suc, ◌+◌, ◌-◌, ◌%◌, ◌^◌, ◌≤◌, ◌<◌}
 use native.Mathlib.Nat.{le_refl, add_assoc, add-zero, zero-add, div-one, mod-eq_of_lt}
 use native.Mathlib.Numerals.{add-one}
 use native.Mathlib.Omega.{arith}
 use native.Mathlib.Decide.{dec_lt}
-use lib.ListN.{length, get_or, set, take, drop, replicate, length-append, length-take, length-drop, length-replicate, drop_of_length-le, take-append-drop, get_or-eq_default, get_or-append}
+use lib.ListN.{length, get_or, set, take, drop, replicate, length-append, length-take, length-drop, length-replicate, drop_of_length-le, take-append-drop, get_or-eq_default}
 use lib.Seq.{length-take-le, take-length, get_or-drop, drop-cons, take_at, drop_at, take-append-le, drop-append-le, take-take, drop-drop, drop-length, get_or-take, take-add, take_all, set_split}
 use lib.Dec.{eqb}
 use borrow.Author.Tests.{eqb-true}
 use Rattle.octets.specs.Bytes.{be, bytes_of, part, put, AreBytes, all_zero}
 use Rattle.octets.proofs.Numbers as N
+use borrow.Rule.Slice.PartMut.{put_mid}
+use lib.Seq.{paste}
 
 -- ---- lengths and elements
 
@@ -68,21 +70,6 @@ part_one at xs h = ap (take 1) (drop-cons xs at 0 h)
 -- a part's last element
 pub part_more : (at k : ℕ) (xs : List ℕ) → at + k < length xs → part at (k + 1) xs ≡ part at k xs ++ (get_or xs (at + k) 0 ∷ [])
 part_more at k xs h = part_add at k 1 xs ∙ ap (λ (r : List ℕ). part at k xs ++ r) (part_one (at + k) xs h)
-
--- a part's first element
-pub part_less : (at k : ℕ) (xs : List ℕ) → at < length xs → part at (suc k) xs ≡ get_or xs at 0 ∷ part (at + 1) k xs
-unfolding part
-part_less at k xs h = ap (take (suc k)) (drop-cons xs at 0 h) ∙ ap (λ (n : ℕ). get_or xs at 0 ∷ take k (drop n xs)) (sym (add-one at))
-
--- four elements
-part_four : (at : ℕ) (xs : List ℕ) → at + 4 ≤ length xs → part at 4 xs ≡ get_or xs at 0 ∷ get_or xs (at + 1) 0 ∷ get_or xs (at + 2) 0 ∷ get_or xs (at + 3) 0 ∷ []
-part_four at xs h =
-    let two : at + 1 + 1 ≡ at + 2 = omega arith in
-    let three : at + 2 + 1 ≡ at + 3 = omega arith in
-    let d : part (at + 3) 1 xs ≡ get_or xs (at + 3) 0 ∷ [] = part_one (at + 3) xs (omega arith) in
-    let c : part (at + 2) 2 xs ≡ get_or xs (at + 2) 0 ∷ get_or xs (at + 3) 0 ∷ [] = part_less (at + 2) 1 xs (omega arith) ∙ ap (λ (n : ℕ). get_or xs (at + 2) 0 ∷ part n 1 xs) three ∙ ap (λ (l : List ℕ). get_or xs (at + 2) 0 ∷ l) d in
-    let b : part (at + 1) 3 xs ≡ get_or xs (at + 1) 0 ∷ get_or xs (at + 2) 0 ∷ get_or xs (at + 3) 0 ∷ [] = part_less (at + 1) 2 xs (omega arith) ∙ ap (λ (n : ℕ). get_or xs (at + 1) 0 ∷ part n 2 xs) two ∙ ap (λ (l : List ℕ). get_or xs (at + 1) 0 ∷ l) c in
-    part_less at 3 xs (omega arith) ∙ ap (λ (l : List ℕ). get_or xs at 0 ∷ l) b
 
 within : (k j n : ℕ) (xs : List ℕ) → j + k ≤ n → take k (drop j (take n xs)) ≡ take k (drop j xs)
 within k zero n xs h = take-take k n xs (omega arith)
@@ -172,22 +159,6 @@ part_put_after at b n ys xs h i =
     ∙ ap (drop (b - (at + length ys))) (drop_put at ys xs h)
     ∙ drop-drop (b - (at + length ys)) (at + length ys) xs
     ∙ ap (λ (k : ℕ). drop k xs) e)
-
--- an element before it, and after it
-pub get_d_put_before : (at i : ℕ) (ys xs : List ℕ) → at ≤ length xs → i < at → get_or (put at ys xs) i 0 ≡ get_or xs i 0
-unfolding put
-get_d_put_before at i ys xs h l =
-    let k : i < length (take at xs) = rw length-take-le l in
-    get_or-append (take at xs) (ys ++ drop (at + length ys) xs) 0 i k ∙ get_or-take at xs i 0 l
-
-pub get_d_put_after : (at i : ℕ) (ys xs : List ℕ) → at + length ys ≤ length xs → at + length ys ≤ i → get_or (put at ys xs) i 0 ≡ get_or xs i 0
-get_d_put_after at i ys xs h l =
-    let e : at + length ys + (i - (at + length ys)) ≡ i = omega arith in
-    ap (λ (k : ℕ). get_or (put at ys xs) k 0) (sym e)
-    ∙ sym (get_or-drop (at + length ys) (put at ys xs) (i - (at + length ys)) 0)
-    ∙ ap (λ (r : List ℕ). get_or r (i - (at + length ys)) 0) (drop_put at ys xs h)
-    ∙ get_or-drop (at + length ys) xs (i - (at + length ys)) 0
-    ∙ ap (λ (k : ℕ). get_or xs k 0) e
 
 -- ---- several puts
 
@@ -303,6 +274,16 @@ put_behind_zero n ys e =
     let l : length (replicate {A = ℕ} (suc n) 0) ≤ 1 + length ys = omega (arith, length-replicate {A = ℕ} (suc n) 0) in
     ap (λ (r : List ℕ). 0 ∷ (ys ++ r)) (drop_of_length-le (replicate (suc n) 0) l) ∙ ap (λ (r : List ℕ). 0 ∷ r) (append-nil ys)
 
+-- what a copy into the part of a slice leaves
+pub put_mid_put : (at k : ℕ) (ys xs : List ℕ) → length ys ≡ k → put_mid at k xs ys ≡ put at ys xs
+unfolding put
+put_mid_put at k ys xs e = rw (← e) (ap (λ (r : List ℕ). take at xs ++ (ys ++ r)) (drop-drop (length ys) at xs))
+
+-- and a copy within a slice, from a place to another
+pub paste_put : (from at n : ℕ) (xs : List ℕ) → from + n ≤ length xs → paste xs at (drop from xs) n ≡ put at (part from n xs) xs
+unfolding put part
+paste_put from at n xs h = rw (length_part from n xs h) (append_assoc (take at xs) (take n (drop from xs)) (drop (at + n) xs))
+
 -- one element
 pub put_one : (at x : ℕ) (xs : List ℕ) → at < length xs → put at (x ∷ []) xs ≡ set xs at x
 unfolding put
@@ -313,17 +294,6 @@ put_one at x xs h = ap (λ (n : ℕ). take at xs ++ x ∷ drop n xs) (add-one at
 pub be_at : (at : ℕ) (s : List ℕ) → at < length s → be (part at 1 s) ≡ get_or s at 0
 be_at at s h = ap be (part_one at s h) ∙ N.be_one (get_or s at 0)
 
--- two halves
-pub be_two : (at j k : ℕ) (s : List ℕ) → at + (j + k) ≤ length s → be (part at (j + k) s) ≡ be (part at j s) * 256 ^ k + be (part (at + j) k s)
-be_two at j k s h =
-    ap be (part_add at j k s)
-    ∙ N.be_append (part at j s) (part (at + j) k s)
-    ∙ ap (λ (n : ℕ). be (part at j s) * 256 ^ n + be (part (at + j) k s)) (length_part (at + j) k s (omega arith))
-
--- one byte more
-pub be_more : (at k : ℕ) (s : List ℕ) → at + k < length s → be (part at (k + 1) s) ≡ be (part at k s) * 256 + get_or s (at + k) 0
-be_more at k s h = ap be (part_more at k s h) ∙ N.be_snoc (part at k s) (get_or s (at + k) 0)
-
 -- the number at a place is below 256 to its width
 pub be_part_lt : (at k : ℕ) (s : List ℕ) → AreBytes s → at + k ≤ length s → be (part at k s) < 256 ^ k
 be_part_lt at k s b h = subst (λ (n : ℕ). be (part at k s) < 256 ^ n) (length_part at k s h) (N.be_lt (part at k s) (bytes_part at k s b))
@@ -332,35 +302,12 @@ be_part_lt at k s b h = subst (λ (n : ℕ). be (part at k s) < 256 ^ n) (length
 pub bytes_at : (at k : ℕ) (s : List ℕ) → AreBytes s → at + k ≤ length s → bytes_of k (be (part at k s)) ≡ part at k s
 bytes_at at k s b h = ap (λ (n : ℕ). bytes_of n (be (part at k s))) (sym (length_part at k s h)) ∙ N.bytes_of_be (part at k s) (bytes_part at k s b)
 
--- four bytes at a place, the first the lowest of a number
-pub turned_at : (at a b c d : ℕ) (s : List ℕ) → at + 4 ≤ length s → (a ≡ get_or s at 0) × (a < 256) → (b ≡ get_or s (at + 1) 0) × (b < 256) → (c ≡ get_or s (at + 2) 0) × (c < 256) → (d ≡ get_or s (at + 3) 0) × (d < 256)
-    → bytes_of 4 (a + 256 * (b + 256 * (c + 256 * d))) ≡ reverse (part at 4 s)
-turned_at at a b c d s h p q r t =
-    let e : part at 4 s ≡ a ∷ b ∷ c ∷ d ∷ [] = part_four at s h ∙ (cc) in
-    N.lowest_first a b c d p.1 q.1 r.1 t.1 ∙ sym (ap reverse e)
-
 -- one byte stored
 pub store_one : (at v : ℕ) (s : List ℕ) → v < 256 → at < length s → set s at v ≡ put at (bytes_of 1 v) s
 unfolding bytes_of
 store_one at v s l h = sym (put_one at v s h) ∙ ap (λ (x : ℕ). put at (x ∷ []) s) (sym (ap (λ (x : ℕ). x % 256) (div-one v) ∙ mod-eq_of_lt l))
 
--- a number stored in two halves
-pub store_two : (at j k v hi lo : ℕ) (s t u : List ℕ) → at + (j + k) ≤ length s → bytes_of j hi ≡ bytes_of j (v / 256 ^ k) → bytes_of k lo ≡ bytes_of k v
-    → t ≡ put at (bytes_of j hi) s → u ≡ put (at + j) (bytes_of k lo) t → u ≡ put at (bytes_of (j + k) v) s
-store_two at j k v hi lo s t u h p q e f =
-    chain at j k (bytes_of j hi) (bytes_of k lo) s t u (N.length_bytes_of j hi) (N.length_bytes_of k lo) (omega arith) e f
-    ∙ ap (λ (l : List ℕ). put at l s) (ap₂ (λ (x y : List ℕ). x ++ y) p q ∙ sym (N.bytes_of_two j k v))
-
 -- ---- all zero
-
-pub all_zero_append : (xs ys : List ℕ) → all_zero (xs ++ ys) ≡ cond (all_zero xs) (all_zero ys) false
-unfolding all_zero
-all_zero_append [] ys = refl
-all_zero_append (x ∷ xs) ys = ap (λ (b : Bool). cond (eqb x 0) b false) (all_zero_append xs ys) ∙ both (eqb x 0) (all_zero xs)
-  where
-    both : (p q : Bool) → cond p (cond q (all_zero ys) false) false ≡ cond (cond p q false) (all_zero ys) false
-    both true q = refl
-    both false q = refl
 
 -- what is all zero
 pub all_zero_true : (xs : List ℕ) → all_zero xs ≡ true → xs ≡ replicate (length xs) 0

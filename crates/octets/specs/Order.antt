@@ -1,8 +1,8 @@
 -- The order of numbers and of byte strings.
 use Prim.Native.Nat.{ℕ, Ordering}
 use Rattle.std.specs.Prelude.{Bool, true, false, cond, List, [], ◌∷◌, ltb}
-use Rattle.octets.specs.declared.Order.{Order}
-use Rattle.octets.specs.declared.Order.TheVariants.{Less, Equal, Greater}
+use Rattle.std.specs.declared.cmp.Ordering.{Ordering as Order}
+use Rattle.std.specs.declared.cmp.Ordering.TheVariants.{Less, Equal, Greater}
 
 -- how two numbers stand
 unfoldable pub order : ℕ → ℕ → Order

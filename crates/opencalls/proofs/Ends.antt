@@ -1,7 +1,8 @@
 -- The ends of open: for each way out of the code, the rule's answer. An asked volume that is stored goes first (6, or the answer), then what stands in for what was not asked
 -- (5), then room (19). A log is named by a commit just where it has a latest one. A new volume is in form, since its identifiers are and a log's latest LSN is.
-use Rattle.std.proofs.Common.{◌≡◌, ℕ, zero, suc, ◌+◌, ◌<◌, ◌≤◌, Bool, true, false, ◌&&◌, ◌||◌, eqb, List, [], ◌∷◌, length, drop, sym, refl, ap, ◌∙◌, subst, ap₂, add-one, arith, drop_of_length-le, eq-eqb, ne_eqb}
+use Rattle.std.proofs.Common.{◌≡◌, ℕ, zero, suc, ◌+◌, ◌<◌, ◌≤◌, Bool, true, false, ◌&&◌, ◌||◌, eqb, List, [], ◌∷◌, length, drop, sym, refl, ap, ◌∙◌, subst, ap₂, add-one, arith, drop_of_length-le, eq-eqb, ne_eqb, Result, Ok, Err, Option as Maybe, None}
 use mathlib.Core.Option.{Option, none, some, map}
+use Rattle.volume.specs.declared.volume.SyncPoint.{SyncPoint as CodePoint}
 use Rattle.octets.specs.Bytes.{AreBytes}
 use Rattle.basics.specs.Answers.{Answer, refused, done, code, ask, ◌>>◌}
 use Rattle.basics.specs.Orders.{bytes}
@@ -13,8 +14,6 @@ use Rattle.rules.specs.Open.{Ids, Asked, agrees_on, or_spare, log_named, sync_at
 use Rattle.rules.proofs.TableLaws.{option_same, missing, and_both, first_any}
 use Rattle.rules.proofs.Kept.{latest_form, sync_at_form}
 use Rattle.table.specs.Table.{count_of}
-use Rattle.table.specs.declared.Spot.{Spot}
-use Rattle.table.specs.declared.Spot.TheVariants as Spot
 use Rattle.layout.specs.Lent.{lent, after}
 use Rattle.layout.specs.Records.{volume_bytes}
 use Rattle.layout.specs.Tables.{volumes_in, volumes_ok, commits_in, commits_ok, laid_over}
@@ -23,8 +22,6 @@ use Rattle.rows.specs.Lookups.{nth, at_spot}
 use Rattle.rows.proofs.Rows.{formed_rules, formed_forms, length_rows, laid_same}
 use Rattle.rows.proofs.Tables.{volumes, commits}
 use Rattle.volume.specs.Volumes.{sync_says, volume_says}
-use Rattle.volume.specs.declared.volume.Sync.{Sync}
-use Rattle.volume.specs.declared.volume.PendingCommit.TheVariants as PendingCommit
 use Rattle.volume.specs.declared.volume.Volume.{Volume as CodeVolume}
 use Rattle.volumebytes.specs.Laid.{volume_laid}
 use Rattle.volumebytes.proofs.RoundLaws.{says_laid}
@@ -36,13 +33,13 @@ use Rattle.opencalls.specs.declared.Opening.TheVariants as Opening
 -- ---- the new volume
 
 -- what the code makes is the new volume, in form
-pub new_good : (u : List ℕ) → commits_ok u ≡ true → (a : Asked) (x : Ids) (id here there : Id) (s : Sync) (h : List ℕ) (r : CodeVolume)
+pub new_good : (u : List ℕ) → commits_ok u ≡ true → (a : Asked) (x : Ids) (id here there : Id) (s : Maybe CodePoint) (r : CodeVolume)
     → id ≡ or_spare a.vid x.vid → here ≡ or_spare a.local x.local → there ≡ or_spare a.remote x.remote → sync_says s ≡ sync_at (latest_lsn (commits_in u) there)
-    → r ≡ record { vid = id; local = here; remote = there; sync = s; pending = PendingCommit.Missing; pending_hash = h }
+    → r ≡ record { vid = id; local = here; remote = there; sync = s; pending = None }
     → id_form id ≡ true → id_form here ≡ true → id_form there ≡ true
     → (volume_says r ≡ new_volume (commits_in u) a x) × (volume_form (volume_says r) ≡ true)
 unfolding volume_form
-new_good u ok a x id here there s h r ei el er es e fi fl fr =
+new_good u ok a x id here there s r ei el er es e fi fl fr =
     let says : volume_says r ≡ record { vid = id; local = here; remote = there; sync = sync_at (latest_lsn (commits_in u) there); pending = none }
     = ap volume_says e ∙ ap (λ (o : Option SyncPoint). record { vid = id; local = here; remote = there; sync = o; pending = none }) es in (
       says
@@ -126,19 +123,19 @@ module _ (t : List ℕ) (cs : Table Commit) (a : Asked) (x : Ids) where
     pub new_goes : fits (store volume_key bytes v (volumes_in t)) ≡ true → Planned t cs a x (opened_new (volumes_in t) cs a x) Opening.New
     new_goes e = (ap (λ (w : Volume). fits (store volume_key bytes w (volumes_in t))) (sym says) ∙ e, by_room true e)
 
-  module _ (o : Option Volume) (p : Spot) (spot : AskedAt t o p) where
+  module _ (o : Option Volume) (p : Result ℕ ℕ) (spot : AskedAt t o p) where
     -- no stored volume was asked
-    pub not_stored : (i : ℕ) → p ≡ Spot.Gap i → (r : Opening) → Planned t cs a x (opened_new (volumes_in t) cs a x) r → Planned t cs a x (opened (volumes_in t) cs a x o) r
+    pub not_stored : (i : ℕ) → p ≡ Err i → (r : Opening) → Planned t cs a x (opened_new (volumes_in t) cs a x) r → Planned t cs a x (opened (volumes_in t) cs a x o) r
     not_stored i e r h =
-        subst (λ (w : Option Volume). Planned t cs a x (opened (volumes_in t) cs a x w) r) (ap (λ (q : Spot). at_spot q (volumes_in t).rows) (sym e) ∙ spot.says) h
+        subst (λ (w : Option Volume). Planned t cs a x (opened (volumes_in t) cs a x w) r) (ap (λ (q : Result ℕ ℕ). at_spot q (volumes_in t).rows) (sym e) ∙ spot.says) h
 
-    module _ (i : ℕ) (e : p ≡ Spot.At i) (v : CodeVolume) (read : map volume_laid (nth i (volumes_in t).rows) ≡ some v) where
+    module _ (i : ℕ) (e : p ≡ Ok i) (v : CodeVolume) (read : map volume_laid (nth i (volumes_in t).rows) ≡ some v) where
       stored_there : nth i (volumes_in t).rows ≡ some (volume_says v)
       stored_there = made_of volume_laid (nth i (volumes_in t).rows) v read (λ w h q. h ∙ ap (λ (z : Volume). some z) (sym (says_laid w) ∙ ap volume_says q))
 
       by_remote : (b : Bool) → agrees_on a.remote (volume_says v) ≡ b → opened (volumes_in t) cs a x o ≡ (ask b 6 >> done (volume_says v, volumes_in t))
       by_remote b h =
-          ap (opened (volumes_in t) cs a x) (sym spot.says ∙ ap (λ (q : Spot). at_spot q (volumes_in t).rows) e ∙ stored_there)
+          ap (opened (volumes_in t) cs a x) (sym spot.says ∙ ap (λ (q : Result ℕ ℕ). at_spot q (volumes_in t).rows) e ∙ stored_there)
           ∙ ap (λ (y : Bool). ask y 6 >> done (volume_says v, volumes_in t)) h
 
       -- 6

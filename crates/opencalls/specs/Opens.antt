@@ -1,5 +1,5 @@
 -- Open on lent bytes: what was asked and the spares as the code holds them, the new volume, and what a plan decides.
-use Rattle.std.specs.Prelude.{◌≡◌, ℕ, ◌<◌, Bool, true, false, ◌&&◌, List, length, ◌==◌, nat_lt}
+use Rattle.std.specs.Prelude.{◌≡◌, ℕ, ◌<◌, Bool, true, false, ◌&&◌, List, length, ◌==◌, nat_lt, Result, Ok}
 use Rattle.std.proofs.Math.Option.{Option, none, some}
 use Rattle.basics.specs.Answers.{Answer, refused, done, ask, ◌>>=◌, ◌>>◌}
 use Rattle.basics.specs.Orders.{bytes}
@@ -7,8 +7,6 @@ use Rattle.rules.specs.Records.{Id, Commit, Volume, volume_key}
 use Rattle.rules.specs.Tables.{Table, fits, store, latest_lsn}
 use Rattle.rules.specs.Open.{Ids, Asked, or_spare, sync_at, vid_free, log_free, open_volume}
 use Rattle.table.specs.Table.{count_of}
-use Rattle.table.specs.declared.Spot.{Spot}
-use Rattle.table.specs.declared.Spot.TheVariants as Spot
 use Rattle.layout.specs.Codecs.{Codec}
 use Rattle.layout.specs.Tables.{volumes_in}
 use Rattle.rows.specs.Lookups.{nth, at_spot}
@@ -58,9 +56,9 @@ all_free vs cs a x =
     vid_free vs a.vid x.vid && log_free vs cs a.local x.local (or_spare a.remote x.remote) && log_free vs cs a.remote x.remote (or_spare a.local x.local)
 
 -- o is where the asked volume v stands; a gap where there is none
-pub record AskedAt (t : List ℕ) (v : Option Volume) (o : Spot) : Type 0 where
+pub record AskedAt (t : List ℕ) (v : Option Volume) (o : Result ℕ ℕ) : Type 0 where
   pub says : at_spot o (volumes_in t).rows ≡ v
-  pub inside : (i : ℕ) → o ≡ Spot.At i → i < count_of t
+  pub inside : (i : ℕ) → o ≡ Ok i → i < count_of t
 
 -- the plan is the rule's answer r, past 20: a number, the stored volume at a place, or the new one
 abbrev pub Planned : List ℕ → Table Commit → Asked → Ids → Answer (Volume × Table Volume) → Opening → Type 0

@@ -14,14 +14,12 @@ ghost use Rattle.layout.specs.Tables.{volumes_in, volumes_ok, commits_in, commit
 ghost use Rattle.layout.specs.Lent.{lent, after};
 ghost use Rattle.opencalls.specs.Opens.{asked_says, asked, spares, open_in, out_after, new_volume, all_free, AskedAt, Planned};
 
-use basics::commit_hash;
 use basics::id::LogId;
 use basics::lsn::Lsn;
-use commits::{Place, commits_formed, lsn_at};
+use commits::{commits_formed, lsn_at};
 use layout::VOLUME;
 use octets::same_id;
-use table::Spot;
-use volume::volume::{MaybeLsn, PendingCommit, Sync, SyncPoint, Volume};
+use volume::volume::{SyncPoint, Volume};
 use volumebytes::put_out;
 use volumes::{find_volume, put_volume, room_for_volume, volume_at, volumes_formed};
 
@@ -54,18 +52,18 @@ fn chosen(w: Wanted) -> [u8; 16]
 }
 
 // The sync point of a new volume: the remote log's latest LSN without watermark, or missing.
-fn sync_at(commits: &[u8], log: LogId) -> Sync
+fn sync_at(commits: &[u8], log: LogId) -> Option<SyncPoint>
     requires { commits_ok commits.now ≡ true }
     ensures { sync_says result ≡ sync_at (latest_lsn (commits_in commits.now) log) }
 {
-    let Place::At(i) = commits::latest(commits, log) else {
-        return Sync::Missing;
+    let Some(i) = commits::latest(commits, log) else {
+        return None;
     };
     let point = SyncPoint {
         remote: Lsn(lsn_at(commits, i)),
-        watermark: MaybeLsn::Missing,
+        watermark: None,
     };
-    Sync::At(point)
+    Some(point)
 }
 
 // The new volume.
@@ -77,14 +75,7 @@ fn new_volume(commits: &[u8], vid: Wanted, local: Wanted, remote: Wanted) -> Vol
     let here = chosen(local);
     let there = chosen(remote);
     let sync = sync_at(commits, there);
-    Volume::new(
-        id,
-        here,
-        there,
-        sync,
-        PendingCommit::Missing,
-        commit_hash::zero(),
-    )
+    Volume::new(id, here, there, sync, None)
 }
 
 // ---- 5: identifiers in use
@@ -107,13 +98,11 @@ fn any_names(volumes: &[u8], log: LogId) -> bool
     ensures { result ≡ any (λ v. same_id log v.local || same_id log v.remote) (volumes_in volumes.now).rows }
 {
     let n = table::count(volumes);
-    let mut i: usize = 0;
-    while i < n {
+    for i in 0..n {
         let v = volume_at(volumes, i);
         if names(v, log) {
             return true;
         }
-        i += 1;
     }
     false
 }
@@ -127,8 +116,8 @@ fn log_named(volumes: &[u8], commits: &[u8], log: LogId) -> bool
         return true;
     }
     match commits::latest(commits, log) {
-        Place::At(_) => true,
-        Place::Missing => false,
+        Some(_) => true,
+        None => false,
     }
 }
 
@@ -205,12 +194,12 @@ fn agrees(remote: Wanted, v: Volume) -> bool
 }
 
 // Where the asked volume stands; in a gap where none was asked.
-fn asked_spot(volumes: &[u8], w: Wanted) -> Spot
+fn asked_spot(volumes: &[u8], w: Wanted) -> Result<usize, usize>
     requires { volumes_ok volumes.now ≡ true }
     ensures { AskedAt volumes.now (asked_volume (volumes_in volumes.now) (asked_says w)) result }
 {
     if !w.asked {
-        return Spot::Gap(0);
+        return Err(0);
     }
     let id = w.id;
     find_volume(volumes, id)
@@ -221,7 +210,7 @@ fn open_plan(volumes: &[u8], commits: &[u8], vid: Wanted, local: Wanted, remote:
     requires { (volumes_ok volumes.now ≡ true) × (commits_ok commits.now ≡ true) }
     ensures { Planned volumes.now (commits_in commits.now) (asked vid local remote) (spares vid local remote) (opened (volumes_in volumes.now) (commits_in commits.now) (asked vid local remote) (spares vid local remote) (asked_volume (volumes_in volumes.now) (asked_says vid))) result }
 {
-    let Spot::At(i) = asked_spot(volumes, vid) else {
+    let Ok(i) = asked_spot(volumes, vid) else {
         return new_plan(volumes, commits, vid, local, remote);
     };
     let v = volume_at(volumes, i);

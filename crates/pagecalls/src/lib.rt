@@ -3,14 +3,14 @@
 #![tactic(auto)]
 
 ghost use Rattle.std.specs.Prelude.{◌≡◌, false};
-ghost use Rattle.basics.specs.Answers.{done};
-ghost use Rattle.basics.specs.Says.{maybe_page_says};
+ghost use Rattle.basics.specs.Refusals.{code_of};
 ghost use Rattle.pageset.specs.Rules.{range_fault, range_rule, insert_rule, new_rule, union_rule, truncate_rule, cut_rule, left_rule, remove_rule, size_rule, first_rule, last_rule, contains_rule, any_rule, all_rule};
 ghost use Rattle.pageset.specs.Says.{Gives, GivesOr22, common, left, refused_set};
 ghost use Rattle.pagecalls.specs.Says.{inserted, count_says, page_says, yes_says};
 
-use basics::page_count::{MaybePage, PageCount};
+use basics::page_count::PageCount;
 use basics::pageidx::PageIdx;
+use basics::refusal::Refusal;
 use pageset::{CutAnswer, PageSet, SetAnswer, form, sets};
 
 // The set with a page inserted, and whether the page was new; or the number of a refusal, no, and the empty set.
@@ -21,71 +21,30 @@ pub struct InsertAnswer {
     pub set: PageSet,
 }
 
-// The number of pages, or the number of a refusal.
-#[derive(Clone, Copy)]
-pub enum CountAnswer {
-    Refused(u32),
-    Count(PageCount),
-}
-
-// A page or nothing, or the number of a refusal.
-#[derive(Clone, Copy)]
-pub enum PageAnswer {
-    Refused(u32),
-    At(PageIdx),
-    Nothing,
-}
-
-// Yes or no, or the number of a refusal.
-#[derive(Clone, Copy)]
-pub enum YesAnswer {
-    Refused(u32),
-    Yes,
-    No,
-}
-
-// A test's answer.
-fn yes_or_no(b: bool) -> YesAnswer
-    ensures { yes_says result ≡ done b }
-{
-    if b { YesAnswer::Yes } else { YesAnswer::No }
-}
-
-// A page's answer.
-fn page_or_nothing(p: MaybePage) -> PageAnswer
-    ensures { page_says result ≡ done (maybe_page_says p) }
-{
-    match p {
-        MaybePage::At(p) => PageAnswer::At(p),
-        MaybePage::Nothing => PageAnswer::Nothing,
-    }
-}
-
-// The number that a range of pages earns: 1 for page 0, 2 for a start above the end, else 0.
-fn range_fault(a: PageIdx, b: PageIdx) -> u32
-    ensures { result ≡ range_fault a.0 b.0 }
+// Whether a range of pages may be asked for: 1 for page 0, 2 for a start above the end.
+fn range_asked(a: PageIdx, b: PageIdx) -> Result<(), Refusal>
+    ensures { code_of result ≡ range_fault a.0 b.0 }
 {
     if a.0 == 0 {
-        return 1;
+        return Err(Refusal::Zero);
     }
     if b.0 == 0 {
-        return 1;
+        return Err(Refusal::Zero);
     }
     if b.0 < a.0 {
-        return 2;
+        return Err(Refusal::Reversed);
     }
-    0
+    Ok(())
 }
 
 // The pages from a to b: 1, 2, 22.
 pub fn from_range(a: PageIdx, b: PageIdx) -> SetAnswer
     ensures { GivesOr22 result (range_rule a.0 b.0) }
 {
-    let fault = range_fault(a, b);
-    if fault != 0 {
-        return sets::refusal(fault);
+    match range_asked(a, b) {
+        Err(refusal) => sets::refusal(refusal.number()),
+        Ok(()) => sets::from_range(a, b),
     }
-    sets::from_range(a, b)
 }
 
 // The set with page p, and whether p was new: 1, 3, 22.
@@ -134,74 +93,68 @@ pub fn union(a: PageSet, b: PageSet) -> SetAnswer
 }
 
 // The number of pages of a set: 3.
-pub fn cardinality(s: PageSet) -> CountAnswer
+pub fn cardinality(s: PageSet) -> Result<PageCount, Refusal>
     ensures { count_says result ≡ size_rule s }
 {
     if !form::is_normal(s) {
-        return CountAnswer::Refused(3);
+        return Err(Refusal::Form);
     }
-    CountAnswer::Count(sets::cardinality(s))
+    Ok(sets::cardinality(s))
 }
 
 // The first page of a set, or nothing: 3.
-pub fn first(s: PageSet) -> PageAnswer
+pub fn first(s: PageSet) -> Result<Option<PageIdx>, Refusal>
     ensures { page_says result ≡ first_rule s }
 {
     if !form::is_normal(s) {
-        return PageAnswer::Refused(3);
+        return Err(Refusal::Form);
     }
-    page_or_nothing(sets::first(s))
+    Ok(sets::first(s))
 }
 
 // The last page of a set, or nothing: 3.
-pub fn last(s: PageSet) -> PageAnswer
+pub fn last(s: PageSet) -> Result<Option<PageIdx>, Refusal>
     ensures { page_says result ≡ last_rule s }
 {
     if !form::is_normal(s) {
-        return PageAnswer::Refused(3);
+        return Err(Refusal::Form);
     }
-    page_or_nothing(sets::last(s))
+    Ok(sets::last(s))
 }
 
 // Whether page p is in the set: 1, 3.
-pub fn contains(s: PageSet, p: PageIdx) -> YesAnswer
+pub fn contains(s: PageSet, p: PageIdx) -> Result<bool, Refusal>
     ensures { yes_says result ≡ contains_rule s p.0 }
 {
     if p.0 == 0 {
-        return YesAnswer::Refused(1);
+        return Err(Refusal::Zero);
     }
     if !form::is_normal(s) {
-        return YesAnswer::Refused(3);
+        return Err(Refusal::Form);
     }
-    yes_or_no(sets::contains(s, p))
+    Ok(sets::contains(s, p))
 }
 
 // Whether some page from a to b is in the set: 1, 2, 3.
-pub fn contains_any(s: PageSet, a: PageIdx, b: PageIdx) -> YesAnswer
+pub fn contains_any(s: PageSet, a: PageIdx, b: PageIdx) -> Result<bool, Refusal>
     ensures { yes_says result ≡ any_rule s a.0 b.0 }
 {
-    let fault = range_fault(a, b);
-    if fault != 0 {
-        return YesAnswer::Refused(fault);
-    }
+    range_asked(a, b)?;
     if !form::is_normal(s) {
-        return YesAnswer::Refused(3);
+        return Err(Refusal::Form);
     }
-    yes_or_no(sets::contains_any(s, a, b))
+    Ok(sets::contains_any(s, a, b))
 }
 
 // Whether each page from a to b is in the set: 1, 2, 3.
-pub fn contains_all(s: PageSet, a: PageIdx, b: PageIdx) -> YesAnswer
+pub fn contains_all(s: PageSet, a: PageIdx, b: PageIdx) -> Result<bool, Refusal>
     ensures { yes_says result ≡ all_rule s a.0 b.0 }
 {
-    let fault = range_fault(a, b);
-    if fault != 0 {
-        return YesAnswer::Refused(fault);
-    }
+    range_asked(a, b)?;
     if !form::is_normal(s) {
-        return YesAnswer::Refused(3);
+        return Err(Refusal::Form);
     }
-    yes_or_no(sets::contains_all(s, a, b))
+    Ok(sets::contains_all(s, a, b))
 }
 
 // The pages of a set that are at most n: 3.
@@ -219,15 +172,16 @@ pub fn truncate(s: PageSet, n: PageCount) -> SetAnswer
 pub fn remove_page_range(s: PageSet, a: PageIdx, b: PageIdx) -> SetAnswer
     ensures { Gives result (remove_rule s a.0 b.0) }
 {
-    let fault = range_fault(a, b);
-    if fault != 0 {
-        return sets::refusal(fault);
+    match range_asked(a, b) {
+        Err(refusal) => sets::refusal(refusal.number()),
+        Ok(()) => {
+            if !form::is_normal(s) {
+                return sets::refusal(3);
+            }
+            let set = sets::remove_page_range(s, a, b);
+            SetAnswer { code: 0, set }
+        }
     }
-    if !form::is_normal(s) {
-        return sets::refusal(3);
-    }
-    let set = sets::remove_page_range(s, a, b);
-    SetAnswer { code: 0, set }
 }
 
 // The common pages of two sets, and the left set without them: 3.

@@ -34,7 +34,7 @@ pub fn take_last(w: Window) -> Last
 pub fn last_place(n: usize) -> usize
     ensures { result ≡ n - 1 }
 {
-    if n == 0 { 0 } else { n - 1 }
+    n.saturating_sub(1)
 }
 
 // A step of the walk: the page that it yields, and what is left after it.

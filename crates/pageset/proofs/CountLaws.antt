@@ -1,6 +1,6 @@
 -- Numbers below a bound that pass a test: the laws of counts, of the lowest and the highest, and that the ones of a set's masks count its pages.
 -- Assumes nothing.
-use Rattle.std.proofs.Common.{◌≡◌, ℕ, zero, suc, ◌+◌, ◌-◌, ◌*◌, ◌/◌, ◌%◌, ◌^◌, ◌<◌, ◌≤◌, min, Bool, true, false, cond, not, ◌&&◌, ◌||◌, eqb, ◌⊎◌, List, [], ◌∷◌, get_or, drop, sym, refl, ap, ◌∙◌, ap₂, inl, inr, add-suc, pow-suc, arith, eq-eqb, ne_eqb, le-leb}
+use Rattle.std.proofs.Common.{◌≡◌, ℕ, zero, suc, ◌+◌, ◌-◌, ◌*◌, ◌/◌, ◌%◌, ◌^◌, ◌<◌, ◌≤◌, min, Bool, true, false, cond, not, ◌&&◌, ◌||◌, eqb, ◌⊎◌, List, [], ◌∷◌, length, get_or, drop, drop_of_length-le, sym, refl, ap, ◌∙◌, ap₂, inl, inr, add-suc, pow-suc, arith, eq-eqb, ne_eqb, le-leb}
 use mathlib.Core.Option.{none, some}
 use borrow.Author.Tests.{lt-leb}
 use lib.Count.{ones, ones_step}
@@ -12,7 +12,7 @@ use Rattle.pageset.specs.Counts.{count, lowest, highest, or_else, any_of, all_of
 use Rattle.pageset.proofs.BitLaws.{digit, bit_zero, bit_suc}
 use Rattle.pageset.proofs.FormLaws.{Rises, Normal, and_fst, and_snd, clash}
 use Rattle.pageset.proofs.WindowLaws.{eq_or, lt_or, mask_nil, mask_same, mask_other, mask_below, mask_lt}
-use Rattle.pageset.proofs.WalkLaws.{room, front, done}
+use Rattle.pageset.proofs.WalkLaws.{next_of}
 
 -- ---- the lowest and the highest
 
@@ -223,24 +223,23 @@ all_windows lo (w ∷ ws) r =
     sum_one (λ q. ones (mask_at (w ∷ ws) q)) (λ q. ones (mask_at ws q)) w.index (ones w.mask) 67108864 j (λ k n. ap ones (mask_other w ws k n)) r.1
     ∙ ap (λ (x : ℕ). ones w.mask + x) (all_windows (w.index + 1) ws r.4)
 
-members_counted : (s : PageSet) → Normal s → total (shown s) ≡ count (member s) (2 ^ 32)
+pub members_counted : (s : PageSet) → Normal s → total (shown s) ≡ count (member s) (2 ^ 32)
 unfolding holds
 members_counted s t =
     sym (by_windows (mask_at (shown s)) (λ q. mask_lt 0 (shown s) q t.rising) 67108864 ∙ all_windows 0 (shown s) t.rising)
 
 -- ---- the walk that adds them up
 
-module _ (s : PageSet) (t : Normal s) (i sum : ℕ) (w : sum + total (drop i (shown s)) ≡ total (shown s)) where
-  pub tally_step : i < s.len → sum + ones (get_or s.windows i zero_window).mask + total (drop (i + 1) (shown s)) ≡ total (shown s)
+module _ (xs : List Window) (i sum : ℕ) (w : sum + total (drop i xs) ≡ total xs) where
+  pub tally_step : i < length xs → sum + ones (get_or xs i zero_window).mask + total (drop (i + 1) xs) ≡ total xs
   tally_step h =
-      let e = ap total (front s (room s t.tidy) i h) ∙ total_cons (get_or s.windows i zero_window) (drop (i + 1) (shown s)) in
+      let e = ap total (next_of xs i h) ∙ total_cons (get_or xs i zero_window) (drop (i + 1) xs) in
       omega (arith, e)
 
-  pub tally_end : s.len ≤ i → sum ≡ count (member s) (2 ^ 32)
+  pub tally_end : length xs ≤ i → sum ≡ total xs
   tally_end h =
-      let e = ap total (done s (room s t.tidy) i h) ∙ total_nil in
-      let k : sum ≡ total (shown s) = omega (arith, e) in
-      k ∙ members_counted s t
+      let e = ap total (drop_of_length-le xs {i = i} h) ∙ total_nil in
+      omega (arith, e)
 
 -- ---- all pages of a range: as many as there are
 

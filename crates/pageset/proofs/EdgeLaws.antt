@@ -12,20 +12,21 @@ use Rattle.pageset.proofs.WindowLaws.{lt_or, mask_nil, mask_same, mask_other, ma
 use Rattle.pageset.proofs.WalkLaws.{rises_at}
 use Rattle.pageset.proofs.CountLaws.{lowest_none, lowest_is, highest_none, highest_is, any_yes, any_no}
 
--- window i of a list in order: its index is at least lo, its mask stands at its index, and is not 0
+-- window i of a list in order: its index is at least lo and has 26 bits, its mask stands at its index, and is not 0
 pub record Nth (lo : ℕ) (xs : List Window) (w : Window) : Type 0 where
   pub low : lo ≤ w.index
+  pub high : w.index < 67108864
   pub here : mask_at xs w.index ≡ w.mask
   pub some : 0 < w.mask
   pub fits : w.mask < 2 ^ 64
 
-nth : (lo : ℕ) (xs : List Window) (i : ℕ) → Rises lo xs → i < length xs → Nth lo xs (get_or xs i zero_window)
+pub nth : (lo : ℕ) (xs : List Window) (i : ℕ) → Rises lo xs → i < length xs → Nth lo xs (get_or xs i zero_window)
 unfolding Rises
 nth lo [] i r h = absurd (omega arith)
-nth lo (w ∷ ws) zero r h = record { low = r.0; here = mask_same w ws w.index refl; some = r.2; fits = r.3 }
+nth lo (w ∷ ws) zero r h = record { low = r.0; high = r.1; here = mask_same w ws w.index refl; some = r.2; fits = r.3 }
 nth lo (w ∷ ws) (suc i) r h =
     let n = nth (w.index + 1) ws i r.4 (omega arith) in
-    record { low = omega (arith, r.0, n.low); here = mask_other w ws _ (λ e. omega (arith, n.low)) ∙ n.here; some = n.some; fits = n.fits }
+    record { low = omega (arith, r.0, n.low); high = n.high; here = mask_other w ws _ (λ e. omega (arith, n.low)) ∙ n.here; some = n.some; fits = n.fits }
 
 -- no window stands above the last
 past : (lo : ℕ) (xs : List Window) (i : ℕ) → Rises lo xs → i + 1 ≡ length xs → (q : ℕ) → (get_or xs i zero_window).index < q → mask_at xs q ≡ 0

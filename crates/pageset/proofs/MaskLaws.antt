@@ -1,14 +1,14 @@
 -- A walk over a set's windows that keeps of each the bits of a mask, g q at window q, and pushes what is left to another set. Assumes nothing.
-use Rattle.std.proofs.Common.{◌≡◌, ℕ, ◌+◌, ◌/◌, ◌%◌, ◌^◌, ◌<◌, ◌≤◌, Bool, ◌&&◌, ◌⊎◌, List, [], ◌∷◌, ◌++◌, length, get_or, take, drop, set, replicate, sym, refl, ap, ◌∙◌, inl, inr, append_assoc, append-nil, lt_of_le_of_lt, arith, length-append}
+use Rattle.std.proofs.Common.{◌≡◌, ℕ, ◌+◌, ◌/◌, ◌%◌, ◌^◌, ◌<◌, ◌≤◌, Bool, ◌&&◌, ◌⊎◌, List, [], ◌∷◌, ◌++◌, length, get_or, drop, set, replicate, sym, refl, ap, ◌∙◌, inl, inr, append_assoc, append-nil, lt_of_le_of_lt, arith, length-append, get_or-take}
 use lib.Bits.{bit_and, and_le_l, and_zero_l}
 use Rattle.pageset.specs.declared.Window.{Window}
 use Rattle.pageset.specs.declared.PageSet.{PageSet}
 use Rattle.pageset.specs.Sets.{bit, mask_at, holds, shown, member, zero_window}
-use Rattle.pageset.specs.Windows.{window_of}
+use Rattle.pageset.specs.Windows.{window_of, pushed}
 use Rattle.pageset.proofs.BitLaws.{bit_and_lem}
 use Rattle.pageset.proofs.FormLaws.{Rises, Tidy, Normal, shown_length}
 use Rattle.pageset.proofs.WindowLaws.{eq_or, mask_nil, mask_same, mask_other, mask_below}
-use Rattle.pageset.proofs.WalkLaws.{one, made, step, made_empty, push_tidy, push_shown, room, front, done}
+use Rattle.pageset.proofs.WalkLaws.{one, made, step, made_empty, push_tidy, push_shown, room, next_of, done}
 use Rattle.pageset.proofs.SpanLaws.{one_length, one_rises, one_same, one_other}
 
 -- each window with the mask that f gives it, without those that have no bit left
@@ -57,33 +57,33 @@ module _ (g : ℕ → ℕ) where
   pub walk_start : (xs : List Window) → Walked xs 0 (made 0 (replicate 32 zero_window))
   walk_start xs = record { tidy = made_empty; few = omega arith; all = refl }
 
-  -- a turn: what is left of window i goes to place n
-  walked_more : (s : PageSet) (t : Tidy s) (i n : ℕ) (ws : List Window) → i < s.len → Walked (shown s) i (made n ws) → (m : ℕ)
-      → m ≡ bit_and (get_or s.windows i zero_window).mask (g (get_or s.windows i zero_window).index)
-      → Walked (shown s) (i + 1) (made (n + step m) (set ws n (window_of (get_or s.windows i zero_window).index m)))
-  walked_more s t i n ws h w m e =
-      let q : ℕ = (get_or s.windows i zero_window).index in
-      let l : n < 32 = omega (arith, w.few, t.short) in
-      let r : PageSet = made (n + step m) (set ws n (window_of q m)) in
-      let p : shown (made (n + step m) (set ws n (window_of q m))) ≡ take n ws ++ one q m = push_shown n ws w.tidy l q m in
-      let k : Tidy (made (n + step m) (set ws n (window_of q m))) = push_tidy n ws w.tidy l q m in
+  -- a turn: what is left of window i is pushed
+  pub walk_push : (xs : List Window) (i : ℕ) (out : PageSet) → i < length xs → i < 32 → Walked xs i out → (m : ℕ)
+      → m ≡ bit_and (get_or xs i zero_window).mask (g (get_or xs i zero_window).index) → Walked xs (i + 1) (pushed (get_or xs i zero_window).index m out)
+  walk_push xs i out h b w m e =
+      let q : ℕ = (get_or xs i zero_window).index in
+      let l : out.len < 32 = omega (arith, w.few) in
+      let p : shown (pushed q m out) ≡ shown out ++ one q m = push_shown out.len out.windows w.tidy l q m in
+      let k : Tidy (pushed q m out) = push_tidy out.len out.windows w.tidy l q m in
       record {
         tidy = k;
-        few = omega (arith, shown_length (made (n + step m) (set ws n (window_of q m))) k, ap length p, length-append (take n ws) (one q m), one_length q m, shown_length (made n ws) w.tidy, w.few);
+        few = omega (arith, shown_length (pushed q m out) k, ap length p, length-append (shown out) (one q m), one_length q m, shown_length out w.tidy, w.few);
         all =
-            ap (λ (x : List Window). x ++ remask cut_by (drop (i + 1) (shown s))) p
-            ∙ append_assoc (take n ws) _ _
-            ∙ ap (λ (x : ℕ). take n ws ++ (one q x ++ remask cut_by (drop (i + 1) (shown s)))) e
-            ∙ ap (λ (x : List Window). take n ws ++ x) (sym (remask_cons cut_by (get_or s.windows i zero_window) (drop (i + 1) (shown s))))
-            ∙ ap (λ (x : List Window). take n ws ++ remask cut_by x) (sym (front s (room s t) i h))
+            ap (λ (x : List Window). x ++ remask cut_by (drop (i + 1) xs)) p
+            ∙ append_assoc (shown out) _ _
+            ∙ ap (λ (x : ℕ). shown out ++ (one q x ++ remask cut_by (drop (i + 1) xs))) e
+            ∙ ap (λ (x : List Window). shown out ++ x) (sym (remask_cons cut_by (get_or xs i zero_window) (drop (i + 1) xs)))
+            ∙ ap (λ (x : List Window). shown out ++ remask cut_by x) (sym (next_of xs i h))
             ∙ w.all;
       }
 
-  -- the same, with the window and the count as the code has them
+  -- the same of a set's window, with the window and the count that the array and its length get
   pub walk_step : (s : PageSet) (t : Tidy s) (i n : ℕ) (ws : List Window) → i < s.len → Walked (shown s) i (made n ws) → (m : ℕ)
       → m ≡ bit_and (get_or s.windows i zero_window).mask (g (get_or s.windows i zero_window).index)
       → (v : Window) → v ≡ window_of (get_or s.windows i zero_window).index m → (r : ℕ) → r ≡ step m → Walked (shown s) (i + 1) (made (n + r) (set ws n v))
-  walk_step s t i n ws h w m e v ev r er = rw (ev, er) (walked_more s t i n ws h w m e)
+  walk_step s t i n ws h w m e v ev r er =
+      let z : get_or (shown s) i zero_window ≡ get_or s.windows i zero_window = get_or-take s.len s.windows i zero_window h in
+      rw (ev, er) (rw z at (walk_push (shown s) i (made n ws) (rw (shown_length s t) h) (omega (arith, t.short)) w m (rw z e)))
 
   module _ (s : PageSet) (t : Normal s) (i : ℕ) (out : PageSet) (h : s.len ≤ i) (w : Walked (shown s) i out) where
     walk_end : shown out ≡ remask cut_by (shown s)

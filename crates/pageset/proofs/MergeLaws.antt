@@ -1,11 +1,11 @@
 -- Two sets walked together, the lower index first, into a third whose mask at each index is f of theirs. Up to a bound the third set has all its
 -- masks; from the bound on, what is left of the two is all that they have there. Assumes nothing.
-use Rattle.std.proofs.Common.{◌≡◌, ℕ, ◌+◌, ◌^◌, ◌<◌, ◌≤◌, min, Bool, true, false, cond, eqb, ◌⊎◌, List, [], ◌∷◌, ◌++◌, length, take, drop, set, replicate, sym, refl, ap, ◌∙◌, subst, ap₂, inl, inr, arith, length-append, length-drop, drop-drop, eq-eqb, ne_eqb}
+use Rattle.std.proofs.Common.{◌≡◌, ℕ, ◌+◌, ◌^◌, ◌<◌, ◌≤◌, min, Bool, true, false, cond, eqb, ◌⊎◌, List, [], ◌∷◌, ◌++◌, length, take, drop, replicate, sym, refl, ap, ◌∙◌, subst, ap₂, inl, inr, arith, length-append, length-drop, drop-drop, eq-eqb, ne_eqb}
 use Rattle.pageset.specs.declared.Window.{Window}
 use Rattle.pageset.specs.declared.PageSet.{PageSet}
 use Rattle.pageset.specs.Sets.{mask_at, shown, zero_window}
 use Rattle.pageset.specs.declared.walk.Turn.{Turn}
-use Rattle.pageset.specs.Windows.{mask_if, turn_of, window_of}
+use Rattle.pageset.specs.Windows.{mask_if, turn_of, pushed}
 use Rattle.pageset.proofs.FormLaws.{Rises, Tidy, Normal, shown_length}
 use Rattle.pageset.proofs.WindowLaws.{lt_or, eq_or, mask_nil, mask_same, mask_other, mask_below}
 use Rattle.pageset.proofs.WalkLaws.{one, made, step, made_empty, push_tidy, push_shown, head_of, head_cons, room, front, done, rises_at}
@@ -141,10 +141,10 @@ module _ (f : ℕ → ℕ → ℕ) where
       gap_b p h = mask_below q lb p (rises_up w.bound q lb w.b_left (omega (arith, ap (λ (v : Window). v.index) ey))) h
 
       abbrev next : PageSet
-      next = made (n + step m) (set ws n (window_of q m))
+      next = pushed q m (made n ws)
 
-      pushed : shown next ≡ take n ws ++ one q m
-      pushed = push_shown n ws w.tidy l q m
+      shows : shown next ≡ take n ws ++ one q m
+      shows = push_shown n ws w.tidy l q m
 
       value : m ≡ f (mask_at (shown a) q) (mask_at (shown b) q)
       value =
@@ -155,7 +155,7 @@ module _ (f : ℕ → ℕ → ℕ) where
       small = rw (em, ex, ey) (fits _ _ turn_a.small turn_b.small)
 
       merged_next : (p : ℕ) → p < q + 1 → mask_at (shown next) p ≡ f (mask_at (shown a) p) (mask_at (shown b) p)
-      merged_next p h = ap (λ (z : List Window). mask_at z p) pushed ∙ go (eq_or q p) (lt_or p w.bound)
+      merged_next p h = ap (λ (z : List Window). mask_at z p) shows ∙ go (eq_or q p) (lt_or p w.bound)
         where
           go : (q ≡ p) ⊎ (q ≡ p → ⊥) → (p < w.bound) ⊎ (w.bound ≤ p) → mask_at (take n ws ++ one q m) p ≡ f (mask_at (shown a) p) (mask_at (shown b) p)
           go (inl z) c = rw (← z) (push_same 0 w.bound (take n ws) w.span q m lo ∙ value)
@@ -180,7 +180,7 @@ module _ (f : ℕ → ℕ → ℕ) where
             tidy = push_tidy n ws w.tidy l q m;
             bound = q + 1;
             top = omega arith;
-            span = rw pushed (span_push 0 w.bound (take n ws) w.span q m lo hq small);
+            span = rw shows (span_push 0 w.bound (take n ws) w.span q m lo hq small);
             a_left = rw (rest a i x ex) turn_a.left;
             b_left = rw (rest b k y ey) turn_b.left;
             a_same = λ p h. ap (λ (z : List Window). mask_at z p) (rest a i x ex) ∙ turn_a.later p (omega arith) ∙ w.a_same p (omega (arith, lo));
@@ -190,17 +190,16 @@ module _ (f : ℕ → ℕ → ℕ) where
 
     -- a turn as the code makes it
     module _ (l : n < 32) (x y : Window) (ex : x ≡ head_of la) (ey : y ≡ head_of lb) (t : Turn) (et : t ≡ turn_of x y) (hq : min x.index y.index < 67108864) where
-      pub merge_step : (m : ℕ) → m ≡ f t.left t.right → (v : Window) → v ≡ window_of t.index m → (r : ℕ) → r ≡ step m
-          → Merging a b (i + t.lefts) (k + t.rights) (made (n + r) (set ws n v))
-      merge_step m em v ev r er =
+      pub merge_step : (m : ℕ) → m ≡ f t.left t.right → Merging a b (i + t.lefts) (k + t.rights) (pushed t.index m (made n ws))
+      merge_step m em =
           let z : m ≡ f (mask_if x (min x.index y.index)) (mask_if y (min x.index y.index)) = em ∙ ap (λ (u : Turn). f u.left u.right) et in
-          rw (ev, er, et) (merge_more l (min x.index y.index) m x y ex ey refl hq z)
+          rw et (merge_more l (min x.index y.index) m x y ex ey refl hq z)
 
       -- a mask where the left side has none is none
-      pub few_step : ((y : ℕ) → f 0 y ≡ 0) → (m : ℕ) → m ≡ f t.left t.right → (r : ℕ) → r ≡ step m → n ≤ i → n + r ≤ i + t.lefts
-      few_step z m em r er h = go (eq_or x.index (min x.index y.index))
+      pub few_step : ((y : ℕ) → f 0 y ≡ 0) → (m : ℕ) → m ≡ f t.left t.right → n ≤ i → n + step m ≤ i + t.lefts
+      few_step z m em h = go (eq_or x.index (min x.index y.index))
         where
-          go : (x.index ≡ min x.index y.index) ⊎ (x.index ≡ min x.index y.index → ⊥) → n + r ≤ i + t.lefts
+          go : (x.index ≡ min x.index y.index) ⊎ (x.index ≡ min x.index y.index → ⊥) → n + step m ≤ i + t.lefts
           go (inl e) =
               let z : t.lefts ≡ 1 = ap (λ (u : Turn). u.lefts) et ∙ ap (λ (c : Bool). cond c 1 0) (eq-eqb x.index (min x.index y.index) e) in
               omega (arith, step_most m)

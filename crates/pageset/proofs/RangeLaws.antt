@@ -1,17 +1,17 @@
 -- The bits of a window that stand for the pages of a range, and the windows of a range one after the other. Assumes nothing.
-use Rattle.std.proofs.Common.{◌≡◌, ℕ, zero, suc, ◌+◌, ◌-◌, ◌*◌, ◌/◌, ◌%◌, ◌^◌, ◌<◌, ◌≤◌, min, Bool, true, false, cond, not, ◌&&◌, eqb, ltb, leb, ◌⊎◌, List, [], ◌∷◌, ◌++◌, length, take, set, replicate, sym, refl, ap, ◌∙◌, ap₂, inl, inr, arith, length-append, pow_pos, pow_mono, le-ltb, lt-ltb, eq-eqb, ne_eqb, le-leb}
+use Rattle.std.proofs.Common.{◌≡◌, ℕ, zero, suc, ◌+◌, ◌-◌, ◌*◌, ◌/◌, ◌%◌, ◌^◌, ◌<◌, ◌≤◌, min, Bool, true, false, cond, not, ◌&&◌, eqb, ltb, leb, ◌⊎◌, List, [], ◌∷◌, ◌++◌, length, replicate, sym, refl, ap, ◌∙◌, ap₂, inl, inr, arith, length-append, pow_pos, pow_mono, le-ltb, lt-ltb, eq-eqb, ne_eqb, le-leb}
 use borrow.Author.Tests.{lt-leb}
 use lib.Bits.{bit_and, and_lt}
 use lib.Pow.{ones_sub-lt}
 use Rattle.pageset.specs.declared.Window.{Window}
 use Rattle.pageset.specs.declared.PageSet.{PageSet}
 use Rattle.pageset.specs.Sets.{bit, mask_at, holds, shown, member, zero_window}
-use Rattle.pageset.specs.Windows.{up_to, span_mask, window_of}
+use Rattle.pageset.specs.Windows.{up_to, span_mask, pushed}
 use Rattle.pageset.specs.Rules.{within}
 use Rattle.pageset.proofs.BitLaws.{bit_ones, bit_and_lem, bit_not, bit_none}
 use Rattle.pageset.proofs.FormLaws.{Rises, Tidy, Normal, shown_length, clash}
 use Rattle.pageset.proofs.WindowLaws.{lt_or, eq_or, mask_nil, mask_other}
-use Rattle.pageset.proofs.WalkLaws.{one, made, step, made_empty, push_tidy, push_shown}
+use Rattle.pageset.proofs.WalkLaws.{one, made, made_empty, push_tidy, push_shown}
 use Rattle.pageset.proofs.SpanLaws.{one_length, Span, span_nil, span_push, span_rises, span_past, push_other, push_same, longer}
 
 -- ---- one window
@@ -82,13 +82,13 @@ module _ (lo hi : ℕ) where
               ∙ sym (ap (λ (b : Bool). b && leb p hi) (lt-leb lo p (let g : p < lo = omega arith in g)));
         }
 
-    -- a turn: window q goes to place n
-    module _ (q n : ℕ) (ws : List Window) (w : Ranged q (made n ws)) (l : q < 67108864) (f : n < 32) where
+    -- a turn: window q is pushed
+    module _ (q : ℕ) (out : PageSet) (w : Ranged q out) (l : q < 67108864) (f : out.len < 32) where
       abbrev next : PageSet
-      next = made (n + step (span_mask lo hi q)) (set ws n (window_of q (span_mask lo hi q)))
+      next = pushed q (span_mask lo hi q) out
 
-      pushed : shown next ≡ take n ws ++ one q (span_mask lo hi q)
-      pushed = push_shown n ws w.tidy f q (span_mask lo hi q)
+      shows : shown next ≡ shown out ++ one q (span_mask lo hi q)
+      shows = push_shown out.len out.windows w.tidy f q (span_mask lo hi q)
 
       range_holds : (p : ℕ) → p / 64 < q + 1 → member next p ≡ within lo hi p
       unfolding holds
@@ -97,29 +97,28 @@ module _ (lo hi : ℕ) where
           go : (q ≡ p / 64) ⊎ (q ≡ p / 64 → ⊥) → bit (mask_at (shown next) (p / 64)) (p % 64) ≡ within lo hi p
           go (inl z) =
               let k : q * 64 + p % 64 ≡ p = omega arith in
-              ap (λ (x : List Window). bit (mask_at x (p / 64)) (p % 64)) pushed
-              ∙ ap (λ (x : ℕ). bit (mask_at (take n ws ++ one q (span_mask lo hi q)) x) (p % 64)) (sym z)
-              ∙ ap (λ (m : ℕ). bit m (p % 64)) (push_same 0 q (take n ws) w.span q (span_mask lo hi q) (omega arith))
+              ap (λ (x : List Window). bit (mask_at x (p / 64)) (p % 64)) shows
+              ∙ ap (λ (x : ℕ). bit (mask_at (shown out ++ one q (span_mask lo hi q)) x) (p % 64)) (sym z)
+              ∙ ap (λ (m : ℕ). bit m (p % 64)) (push_same 0 q (shown out) w.span q (span_mask lo hi q) (omega arith))
               ∙ span_bit q (p % 64) (omega arith)
               ∙ ap (within lo hi) k
           go (inr z) =
-              ap (λ (x : List Window). bit (mask_at x (p / 64)) (p % 64)) pushed
-              ∙ ap (λ (m : ℕ). bit m (p % 64)) (push_other (take n ws) q (span_mask lo hi q) (p / 64) z)
+              ap (λ (x : List Window). bit (mask_at x (p / 64)) (p % 64)) shows
+              ∙ ap (λ (m : ℕ). bit m (p % 64)) (push_other (shown out) q (span_mask lo hi q) (p / 64) z)
               ∙ w.held p (omega arith)
 
       ranged_more : Ranged (q + 1) next
       ranged_more =
-          let t : Tidy next = push_tidy n ws w.tidy f q (span_mask lo hi q) in
+          let t : Tidy next = push_tidy out.len out.windows w.tidy f q (span_mask lo hi q) in
           record {
             tidy = t;
-            few = omega (arith, shown_length next t, ap length pushed, length-append (take n ws) (one q (span_mask lo hi q)), one_length q (span_mask lo hi q), shown_length (made n ws) w.tidy, w.few);
-            span = rw pushed (span_push 0 q (take n ws) w.span q (span_mask lo hi q) (omega arith) l (span_lt q));
+            few = omega (arith, shown_length next t, ap length shows, length-append (shown out) (one q (span_mask lo hi q)), one_length q (span_mask lo hi q), shown_length out w.tidy, w.few);
+            span = rw shows (span_push 0 q (shown out) w.span q (span_mask lo hi q) (omega arith) l (span_lt q));
             held = range_holds;
           }
 
-      -- the same, with the window and the count as the code has them
-      pub range_step : (m : ℕ) → m ≡ span_mask lo hi q → (v : Window) → v ≡ window_of q m → (r : ℕ) → r ≡ step m → Ranged (q + 1) (made (n + r) (set ws n v))
-      range_step m em v ev r er = rw (ev, er, em) ranged_more
+      pub range_push : (m : ℕ) → m ≡ span_mask lo hi q → Ranged (q + 1) (pushed q m out)
+      range_push m em = rw em ranged_more
 
     and-false : (x : Bool) → (x && false) ≡ false
     and-false true = refl

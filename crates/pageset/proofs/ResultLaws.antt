@@ -1,9 +1,9 @@
 -- A set that is given by its pages: how a walk's result is one, and that the promises which go by pages determine the answer. Assumes nothing.
-use Rattle.std.proofs.Common.{◌≡◌, ℕ, Bool, true, false, ◌⊎◌, sym, refl, ap, ◌∙◌, ap₂, inl, inr, arith}
+use Rattle.std.proofs.Common.{◌≡◌, ℕ, Bool, sym, refl, ap, ◌∙◌, inl, inr, arith}
 use Rattle.basics.specs.Answers.{Answer, refused, done}
 use Rattle.pageset.specs.declared.PageSet.{PageSet}
 use Rattle.pageset.specs.declared.SetAnswer.{SetAnswer}
-use Rattle.pageset.specs.Sets.{member, normal}
+use Rattle.pageset.specs.Sets.{member}
 use Rattle.pageset.specs.Says.{IsSet, Gives, GivesOr22, refused_set}
 use Rattle.pageset.proofs.FormLaws.{Normal, normal_fact, normal_test}
 use Rattle.pageset.proofs.WalkLaws.{unique}

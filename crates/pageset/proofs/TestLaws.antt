@@ -1,11 +1,11 @@
 -- A walk that tests windows one by one: the test of what is left, at a window that passes and at one that does not. Assumes nothing.
-use Rattle.std.proofs.Common.{◌≡◌, ℕ, ◌+◌, ◌^◌, ◌<◌, ◌≤◌, Bool, true, false, ◌&&◌, eqb, ltb, leb, List, [], ◌∷◌, length, get_or, drop, sym, refl, ap, ◌∙◌, ap₂, add-one, arith, drop_of_length-le, drop-cons, le-ltb, lt-ltb, eq-eqb, ne_eqb, le-leb}
+use Rattle.std.proofs.Common.{◌≡◌, ℕ, ◌+◌, ◌^◌, ◌<◌, ◌≤◌, Bool, true, false, ◌&&◌, eqb, ltb, List, [], ◌∷◌, length, get_or, drop, refl, ap, ◌∙◌, ap₂, arith, drop_of_length-le, le-ltb, le-leb}
 use borrow.Author.Tests.{lt-leb}
 use Rattle.pageset.specs.declared.Window.{Window}
-use Rattle.pageset.specs.declared.PageSet.{PageSet}
-use Rattle.pageset.specs.Sets.{rising, window_form, window_forms, shown, zero_window, blank}
+use Rattle.pageset.specs.Sets.{rising, window_form, window_forms, zero_window, blank}
 use Rattle.pageset.proofs.FormLaws.{and_left, and_right, form_test}
-use Rattle.pageset.proofs.WalkLaws.{front, done}
+use Rattle.pageset.proofs.WalkLaws.{next_of}
+use Rattle.std.specs.List.{list_all}
 
 -- ---- windows in order
 
@@ -26,50 +26,34 @@ module _ (lo : ℕ) (w : Window) (ws : List Window) where
   unfolding rising window_forms
   good h e = ap₂ (λ (a b : Bool). (a && rising (w.index + 1) ws) && (b && window_forms ws)) (le-leb lo w.index h) e
 
-module _ (s : PageSet) (t : s.len ≤ length s.windows) (i lo : ℕ) where
-  pub order_end : s.len ≤ i → in_order lo (drop i (shown s)) ≡ true
+module _ (xs : List Window) (i lo : ℕ) where
+  pub order_end : length xs ≤ i → in_order lo (drop i xs) ≡ true
   unfolding rising window_forms
-  order_end h = ap (in_order lo) (done s t i h)
+  order_end h = ap (in_order lo) (drop_of_length-le xs {i = i} h)
 
-  module _ (h : i < s.len) where
+  module _ (h : i < length xs) where
     abbrev here : Window
-    here = get_or s.windows i zero_window
+    here = get_or xs i zero_window
 
-    next : in_order lo (drop i (shown s)) ≡ in_order lo (here ∷ drop (i + 1) (shown s))
-    next = ap (in_order lo) (front s t i h)
+    next : in_order lo (drop i xs) ≡ in_order lo (here ∷ drop (i + 1) xs)
+    next = ap (in_order lo) (next_of xs i h)
 
-    pub order_low : (get_or s.windows i zero_window).index < lo → in_order lo (drop i (shown s)) ≡ false
-    order_low l = next ∙ low lo here (drop (i + 1) (shown s)) l
+    pub order_low : (get_or xs i zero_window).index < lo → in_order lo (drop i xs) ≡ false
+    order_low l = next ∙ low lo here (drop (i + 1) xs) l
 
-    pub order_high : 67108864 ≤ (get_or s.windows i zero_window).index → in_order lo (drop i (shown s)) ≡ false
-    order_high l = next ∙ bad lo here (drop (i + 1) (shown s)) (and_right (ltb 0 here.mask && ltb here.mask (2 ^ 64)) _ (le-ltb here.index (2 ^ 26) l))
+    pub order_high : 67108864 ≤ (get_or xs i zero_window).index → in_order lo (drop i xs) ≡ false
+    order_high l = next ∙ bad lo here (drop (i + 1) xs) (and_right (ltb 0 here.mask && ltb here.mask (2 ^ 64)) _ (le-ltb here.index (2 ^ 26) l))
 
-    pub order_empty : (get_or s.windows i zero_window).mask ≡ 0 → in_order lo (drop i (shown s)) ≡ false
-    order_empty e = next ∙ bad lo here (drop (i + 1) (shown s)) (and_left _ _ (and_left _ _ (le-ltb 0 here.mask (omega arith))))
+    pub order_empty : (get_or xs i zero_window).mask ≡ 0 → in_order lo (drop i xs) ≡ false
+    order_empty e = next ∙ bad lo here (drop (i + 1) xs) (and_left _ _ (and_left _ _ (le-ltb 0 here.mask (omega arith))))
 
-    pub order_step : lo ≤ (get_or s.windows i zero_window).index → 0 < (get_or s.windows i zero_window).mask → (get_or s.windows i zero_window).mask < 2 ^ 64
-        → (get_or s.windows i zero_window).index < 67108864 → in_order lo (drop i (shown s)) ≡ in_order ((get_or s.windows i zero_window).index + 1) (drop (i + 1) (shown s))
-    order_step a b c d = next ∙ good lo here (drop (i + 1) (shown s)) a (form_test here b c d)
+    pub order_step : lo ≤ (get_or xs i zero_window).index → 0 < (get_or xs i zero_window).mask → (get_or xs i zero_window).mask < 2 ^ 64
+        → (get_or xs i zero_window).index < 67108864 → in_order lo (drop i xs) ≡ in_order ((get_or xs i zero_window).index + 1) (drop (i + 1) xs)
+    order_step a b c d = next ∙ good lo here (drop (i + 1) xs) a (form_test here b c d)
 
 -- ---- zero windows
 
-module _ (ws : List Window) (t : length ws ≡ 32) (i : ℕ) where
-  pub blank_end : 32 ≤ i → blank (drop i ws) ≡ true
-  unfolding blank
-  blank_end h = ap blank (drop_of_length-le ws {i = i} (omega arith))
-
-  module _ (h : i < 32) where
-    pair : blank (drop i ws) ≡ blank (get_or ws i zero_window ∷ drop (i + 1) ws)
-    pair = let l : i < length ws = omega arith in rw (add-one, drop-cons ws i zero_window)
-
-    pub blank_index : ((get_or ws i zero_window).index ≡ 0 → ⊥) → blank (drop i ws) ≡ false
-    unfolding blank
-    blank_index n = pair ∙ and_left _ _ (and_left _ _ (ne_eqb _ 0 n))
-
-    pub blank_mask : ((get_or ws i zero_window).mask ≡ 0 → ⊥) → blank (drop i ws) ≡ false
-    unfolding blank
-    blank_mask n = pair ∙ and_left _ _ (and_right (eqb (get_or ws i zero_window).index 0) _ (ne_eqb _ 0 n))
-
-    pub blank_step : (get_or ws i zero_window).index ≡ 0 → (get_or ws i zero_window).mask ≡ 0 → blank (drop i ws) ≡ blank (drop (i + 1) ws)
-    unfolding blank
-    blank_step p q = pair ∙ ap₂ (λ (a b : Bool). (a && b) && blank (drop (i + 1) ws)) (eq-eqb _ 0 p) (eq-eqb _ 0 q)
+pub all_zero : (ws : List Window) → list_all (λ w. eqb w.index 0 && eqb w.mask 0) ws ≡ blank ws
+unfolding blank
+all_zero [] = refl
+all_zero (w ∷ ws) = ap (λ (b : Bool). (eqb w.index 0 && eqb w.mask 0) && b) (all_zero ws)

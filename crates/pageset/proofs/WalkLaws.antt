@@ -4,7 +4,7 @@ use Rattle.std.proofs.Common.{◌≡◌, ℕ, zero, suc, ◌+◌, ◌-◌, ◌*�
 use mir.Val.{Val}
 use denote.Laws.{Is}
 use denote.Struct.Declared.{row}
-use lib.ListN.{length-map, get_or-replicate}
+use lib.ListN.{get_or-replicate}
 use lib.Seq.{set-get_or}
 use Rattle.pageset.specs.contracts.PageSet.{the_type}
 use Rattle.pageset.specs.declared.Window.{Window}
@@ -40,16 +40,20 @@ module _ (s : PageSet) (t : s.len ≤ length s.windows) (i : ℕ) where
   pub done : s.len ≤ i → drop i (shown s) ≡ []
   done h = drop_of_length-le (shown s) {i = i} (rw shown_long h)
 
-  -- a walk that looks for the window of index q
-  module _ (q : ℕ) (h : mask_at (drop i (shown s)) q ≡ mask_at (shown s) q) where
-    pub found : i < s.len → (get_or s.windows i zero_window).index ≡ q → (get_or s.windows i zero_window).mask ≡ mask_at (shown s) q
-    found k e = sym (mask_same _ _ q e) ∙ ap (λ (x : List Window). mask_at x q) (sym (front k)) ∙ h
+-- the next window of a list, and the rest
+pub next_of : (xs : List Window) (i : ℕ) → i < length xs → drop i xs ≡ get_or xs i zero_window ∷ drop (i + 1) xs
+next_of xs i h = rw (add-one, drop-cons xs i zero_window)
 
-    pub passed : i < s.len → ((get_or s.windows i zero_window).index ≡ q → ⊥) → mask_at (drop (i + 1) (shown s)) q ≡ mask_at (shown s) q
-    passed k e = sym (mask_other _ _ q e) ∙ ap (λ (x : List Window). mask_at x q) (sym (front k)) ∙ h
+-- a walk that looks for the window of index q
+module _ (xs : List Window) (i q : ℕ) (h : mask_at (drop i xs) q ≡ mask_at xs q) where
+  pub found : i < length xs → (get_or xs i zero_window).index ≡ q → (get_or xs i zero_window).mask ≡ mask_at xs q
+  found k e = sym (mask_same _ _ q e) ∙ ap (λ (x : List Window). mask_at x q) (sym (next_of xs i k)) ∙ h
 
-    pub missed : s.len ≤ i → 0 ≡ mask_at (shown s) q
-    missed k = sym (mask_nil q) ∙ ap (λ (x : List Window). mask_at x q) (sym (done k)) ∙ h
+  pub passed : i < length xs → ((get_or xs i zero_window).index ≡ q → ⊥) → mask_at (drop (i + 1) xs) q ≡ mask_at xs q
+  passed k e = sym (mask_other _ _ q e) ∙ ap (λ (x : List Window). mask_at x q) (sym (next_of xs i k)) ∙ h
+
+  pub missed : length xs ≤ i → 0 ≡ mask_at xs q
+  missed k = sym (mask_nil q) ∙ ap (λ (x : List Window). mask_at x q) (sym (drop_of_length-le xs {i = i} k)) ∙ h
 
 -- a window of a list in order
 rises_nth : (ws : List Window) (n i lo : ℕ) → Rises lo (take n ws) → i < n → n ≤ length ws → (get_or ws i zero_window).index < 67108864

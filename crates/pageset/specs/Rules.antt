@@ -1,7 +1,7 @@
 -- The calls on page sets, each with its numbers in their order (1, 2, 3, then 22) and the pages of its answer as a test.
 use Rattle.std.specs.Prelude.{ℕ, ◌^◌, Bool, cond, not, ◌&&◌, ◌||◌, ◌==◌, nat_le}
 use Rattle.std.proofs.Math.Option.{Option}
-use Rattle.basics.specs.Answers.{Answer, ask, done, ◌>>=◌, ◌>>◌}
+use Rattle.basics.specs.Answers.{Answer, ask, done, ◌>>◌}
 use Rattle.basics.specs.Numbers.{counts}
 use Rattle.pageset.specs.declared.PageSet.{PageSet}
 use Rattle.pageset.specs.Sets.{member, normal}

@@ -1,6 +1,7 @@
 -- What one turn of a walk over windows reads and writes.
-use Rattle.std.specs.Prelude.{ℕ, ◌+◌, ◌-◌, ◌*◌, ◌^◌, min, Bool, cond, ◌==◌, bit_and}
+use Rattle.std.specs.Prelude.{ℕ, ◌+◌, ◌-◌, ◌*◌, ◌^◌, min, cond, ◌==◌, bit_and, set}
 use Rattle.pageset.specs.declared.Window.{Window}
+use Rattle.pageset.specs.declared.PageSet.{PageSet}
 use Rattle.pageset.specs.declared.walk.Turn.{Turn}
 
 -- the bits of window q that stand for pages up to n
@@ -35,3 +36,7 @@ turn_of x y = turn_at (min x.index y.index) x y
 -- the window of index q and that mask, and the zero window where the mask is 0
 abbrev pub window_of : ℕ → ℕ → Window
 window_of q m = cond (m == 0) (record { index = 0; mask = 0 }) (record { index = q; mask = m })
+
+-- a set with that window after those that count, and as it was where the mask is 0
+abbrev pub pushed : ℕ → ℕ → PageSet → PageSet
+pushed q m s = record { len = s.len + cond (m == 0) 0 1; windows = set s.windows s.len (window_of q m) }

@@ -16,7 +16,7 @@ fn low_bits(k: u32) -> u64
     requires { k ≤ 64 }
     ensures { result ≡ 2 ^ k - 1 }
 {
-    if k < 64 { (1u64 << k) - 1 } else { !0u64 }
+    if k < 64 { (1u64 << k) - 1 } else { u64::MAX }
 }
 
 // The bits of window q that stand for pages up to n.
@@ -28,12 +28,7 @@ fn up_to(q: u32, n: u32) -> u64
     if n < base {
         return 0;
     }
-    let k = n - base;
-    if k < 64 {
-        low_bits(k + 1)
-    } else {
-        low_bits(64)
-    }
+    low_bits((n - base).min(63) + 1)
 }
 
 // The bits of window q that stand for pages from lo to hi.

@@ -9,12 +9,8 @@ fn in_order(s: PageSet) -> bool
     requires { s.len ≤ 32 }
     ensures { result ≡ (rising 0 (shown s) && window_forms (shown s)) }
 {
-    let n = s.len;
-    let ws = s.windows;
     let mut lo: u32 = 0;
-    let mut i: usize = 0;
-    while i < n {
-        let w = ws[i];
+    for w in &s.windows[..s.len] {
         if w.index < lo {
             return false;
         }
@@ -25,7 +21,6 @@ fn in_order(s: PageSet) -> bool
             return false;
         }
         lo = w.index + 1;
-        i += 1;
     }
     true
 }
@@ -35,19 +30,9 @@ fn clear_past(s: PageSet) -> bool
     requires { s.len ≤ 32 }
     ensures { result ≡ blank (drop s.len s.windows) }
 {
-    let ws = s.windows;
-    let mut i: usize = s.len;
-    while i < 32 {
-        let w = ws[i];
-        if w.index != 0 {
-            return false;
-        }
-        if w.mask != 0 {
-            return false;
-        }
-        i += 1;
-    }
-    true
+    s.windows[s.len..]
+        .iter()
+        .all(|w| w.index == 0 && w.mask == 0)
 }
 
 // The mask of window q, and 0 where there is none.
@@ -55,15 +40,10 @@ pub fn mask_at(s: PageSet, q: u32) -> u64
     requires { s.len ≤ 32 }
     ensures { result ≡ mask_at (shown s) q }
 {
-    let n = s.len;
-    let ws = s.windows;
-    let mut i: usize = 0;
-    while i < n {
-        let w = ws[i];
+    for w in &s.windows[..s.len] {
         if w.index == q {
             return w.mask;
         }
-        i += 1;
     }
     0
 }

@@ -8,7 +8,7 @@ ghost use Rattle.pageset.specs.Rules.{within};
 ghost use Rattle.pageset.specs.Says.{empty_set, refused_set, IsSet, GivesOr22};
 
 use crate::{CutAnswer, PageSet, SetAnswer, Window, bits, form, walk};
-use basics::page_count::{MaybePage, PageCount};
+use basics::page_count::PageCount;
 use basics::pageidx::PageIdx;
 
 // The set of no page.
@@ -42,47 +42,42 @@ pub fn cardinality(s: PageSet) -> PageCount
     requires { normal s ≡ true }
     ensures { result.0 ≡ count (member s) (2 ^ 32) }
 {
-    let n = s.len;
-    let ws = s.windows;
     let mut total: u32 = 0;
-    let mut i: usize = 0;
-    while i < n {
-        let w = ws[i];
-        total += u64::count_ones(w.mask);
-        i += 1;
+    for w in &s.windows[..s.len] {
+        total += w.mask.count_ones();
     }
     PageCount(total)
 }
 
 // The first page of a set, or nothing: trailing zeros of the first mask.
-pub fn first(s: PageSet) -> MaybePage
+pub fn first(s: PageSet) -> Option<PageIdx>
     requires { normal s ≡ true }
     ensures { maybe_page_says result ≡ lowest (member s) (2 ^ 32) }
 {
     let n = s.len;
     if n == 0 {
-        return MaybePage::Nothing;
+        return None;
     }
     let ws = s.windows;
     let w = ws[0];
     let b = u64::trailing_zeros(w.mask);
-    MaybePage::At(PageIdx(w.index * 64 + b))
+    Some(PageIdx(w.index * 64 + b))
 }
 
 // The last page of a set, or nothing: leading zeros of the last mask.
-pub fn last(s: PageSet) -> MaybePage
+pub fn last(s: PageSet) -> Option<PageIdx>
     requires { normal s ≡ true }
     ensures { maybe_page_says result ≡ highest (member s) (2 ^ 32) }
 {
     let n = s.len;
     if n == 0 {
-        return MaybePage::Nothing;
+        return None;
     }
     let ws = s.windows;
     let i = n - 1;
     let w = ws[i];
     let b = 63 - u64::leading_zeros(w.mask);
-    MaybePage::At(PageIdx(w.index * 64 + b))
+    Some(PageIdx(w.index * 64 + b))
 }
 
 // Whether a page is in the set.
@@ -99,23 +94,12 @@ fn selected(s: PageSet, lo: u32, hi: u32, inside: bool) -> PageSet
     requires lo_nonzero { 0 < lo }
     ensures { IsSet (λ p. member s p && (if inside then within lo hi p else not (within lo hi p))) result }
 {
-    let len = s.len;
-    let from = s.windows;
-    let mut ws = [Window { index: 0, mask: 0 }; 32];
-    let mut n: usize = 0;
-    let mut i: usize = 0;
-    while i < len {
-        let w = from[i];
+    let mut set = empty();
+    for w in &s.windows[..s.len] {
         let q = w.index;
-        let m = walk::picked(w.mask, bits::span_mask(q, lo, hi), inside);
-        ws[n] = walk::window_of(q, m);
-        n += walk::one_if(m);
-        i += 1;
+        set.push(q, walk::picked(w.mask, bits::span_mask(q, lo, hi), inside));
     }
-    PageSet {
-        len: n,
-        windows: ws,
-    }
+    set
 }
 
 // The pages of a set that are at most n.
@@ -175,19 +159,10 @@ pub fn from_range(a: PageIdx, b: PageIdx) -> SetAnswer
     if 31 < end - lo / 64 {
         return refusal(22);
     }
-    let mut ws = [Window { index: 0, mask: 0 }; 32];
-    let mut n: usize = 0;
-    let mut q = lo / 64;
-    while q <= end {
-        let m = bits::span_mask(q, lo, hi);
-        ws[n] = walk::window_of(q, m);
-        n += walk::one_if(m);
-        q += 1;
+    let mut set = empty();
+    for q in lo / 64..=end {
+        set.push(q, bits::span_mask(q, lo, hi));
     }
-    let set = PageSet {
-        len: n,
-        windows: ws,
-    };
     SetAnswer { code: 0, set }
 }
 
@@ -198,11 +173,9 @@ pub fn single(p: PageIdx) -> PageSet
 {
     let page = p.0;
     let q = page / 64;
-    let m = bits::span_mask(q, page, page);
-    let mut ws = [Window { index: 0, mask: 0 }; 32];
-    ws[0] = walk::window_of(q, m);
-    let len = walk::one_if(m);
-    PageSet { len, windows: ws }
+    let mut set = empty();
+    set.push(q, bits::span_mask(q, page, page));
+    set
 }
 
 // The pages of either set; 22 where they need over 32 windows. Both are walked together, the lower index first.
@@ -211,31 +184,21 @@ pub fn union(a: PageSet, b: PageSet) -> SetAnswer
     requires b_value { normal b ≡ true }
     ensures { GivesOr22 result (done (λ p. member a p || member b p)) }
 {
-    let na = a.len;
-    let aw = a.windows;
-    let nb = b.len;
-    let bw = b.windows;
-    let mut ws = [Window { index: 0, mask: 0 }; 32];
-    let mut n: usize = 0;
+    let mut set = empty();
     let mut i: usize = 0;
     let mut k: usize = 0;
-    while i + k < na + nb {
-        if 32 <= n {
+    // Kept: two walks that go at their own pace; no one iterator does it plainer.
+    while i + k < a.len + b.len {
+        if 32 <= set.len {
             return refusal(22);
         }
-        let x = walk::head(na, i, aw[walk::clamp(i)]);
-        let y = walk::head(nb, k, bw[walk::clamp(k)]);
+        let x = walk::head(a.len, i, a.windows[i.min(31)]);
+        let y = walk::head(b.len, k, b.windows[k.min(31)]);
         let t = walk::next_turn(x, y);
-        let m = t.left | t.right;
-        ws[n] = walk::window_of(t.index, m);
-        n += walk::one_if(m);
+        set.push(t.index, t.left | t.right);
         i += t.lefts;
         k += t.rights;
     }
-    let set = PageSet {
-        len: n,
-        windows: ws,
-    };
     SetAnswer { code: 0, set }
 }
 
@@ -245,37 +208,20 @@ pub fn cut(a: PageSet, b: PageSet) -> CutAnswer
     requires b_value { normal b ≡ true }
     ensures { (result.code ≡ 0) × IsSet (λ p. member a p && member b p) result.common × IsSet (λ p. member a p && not (member b p)) result.left }
 {
-    let na = a.len;
-    let aw = a.windows;
-    let nb = b.len;
-    let bw = b.windows;
-    let mut cs = [Window { index: 0, mask: 0 }; 32];
-    let mut ls = [Window { index: 0, mask: 0 }; 32];
-    let mut nc: usize = 0;
-    let mut nl: usize = 0;
+    let mut common = empty();
+    let mut left = empty();
     let mut i: usize = 0;
     let mut k: usize = 0;
-    while i < na {
-        let x = aw[i];
-        let y = walk::head(nb, k, bw[walk::clamp(k)]);
-        let t = walk::next_turn(x, y);
-        let both = t.left & t.right;
+    // Kept: two walks that go at their own pace; no one iterator does it plainer.
+    while i < a.len {
+        let y = walk::head(b.len, k, b.windows[k.min(31)]);
+        let t = walk::next_turn(a.windows[i], y);
         let rest = t.left & !t.right;
-        cs[nc] = walk::window_of(t.index, both);
-        nc += walk::one_if(both);
-        ls[nl] = walk::window_of(t.index, rest);
-        nl += walk::one_if(rest);
+        common.push(t.index, t.left & t.right);
+        left.push(t.index, rest);
         i += t.lefts;
         k += t.rights;
     }
-    let common = PageSet {
-        len: nc,
-        windows: cs,
-    };
-    let left = PageSet {
-        len: nl,
-        windows: ls,
-    };
     CutAnswer {
         code: 0,
         common,

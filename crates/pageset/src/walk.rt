@@ -1,14 +1,19 @@
 // One turn of a walk over windows, on plain values: what is read, and what is written.
-ghost use Rattle.std.specs.Prelude.{◌≡◌, ◌+◌, ◌-◌, ◌^◌, ◌<◌, ◌≤◌, min, if◌then◌else◌, bit_and, nat_eq, nat_lt};
-ghost use Rattle.pageset.specs.Windows.{past_all, turn_of, window_of};
+ghost use Rattle.std.specs.Prelude.{◌≡◌, ◌+◌, ◌-◌, ◌^◌, ◌<◌, ◌≤◌, if◌then◌else◌, bit_and, nat_lt};
+ghost use Rattle.pageset.specs.Windows.{past_all, turn_of, window_of, pushed};
 
-use crate::Window;
+use crate::{PageSet, Window};
 
-// A place of an array of 32.
-pub fn clamp(i: usize) -> usize
-    ensures { result ≡ min i 31 }
-{
-    if i < 32 { i } else { 31 }
+// How a set under way is filled.
+impl PageSet {
+    // The window of index q and that mask after those that count; none where the mask is zero.
+    pub fn push(&mut self, q: u32, m: u64)
+        requires { self.old.len < 32 }
+        ensures { self.new ≡ pushed q m self.old }
+    {
+        self.windows[self.len] = window_of(q, m);
+        self.len += usize::from(m != 0);
+    }
 }
 
 // The next window of n, or past the last one a window above all others that holds no page.
@@ -76,13 +81,6 @@ pub fn window_of(q: u32, m: u64) -> Window
     } else {
         Window { index: q, mask: m }
     }
-}
-
-// One where a mask holds a page, else none.
-pub fn one_if(m: u64) -> usize
-    ensures { (result ≡ (if nat_eq m 0 then 0 else 1)) × (result ≤ 1) }
-{
-    if m == 0 { 0 } else { 1 }
 }
 
 // The bits of a mask that another has, or those that it has not.

@@ -1,6 +1,6 @@
 -- What is left of a path, in code: an array, a place and a number of ranges. A range that has no commit is passed over; of the first that has one, the run's first row is the next commit, and
 -- with its end lowered below that commit the ranges left give the rest.
-use Rattle.std.proofs.Common.{◌≡◌, ℕ, zero, suc, ◌+◌, ◌-◌, ◌*◌, ◌<◌, ◌≤◌, min, Bool, true, false, cond, not, leb, List, [], ◌∷◌, ◌++◌, map, length, get_or, take, drop, set, sym, refl, ap, ◌∙◌, ap₂, append-nil, add-one, arith, length-append, length-drop, length-set, take-append-drop, drop_of_length-le, length-take, drop-cons, get_or-take, take-suc, get_or-set_same, drop-drop, take-suc-set, take_at, drop-set-lt, ltb-true, leb-false, leb-true}
+use Rattle.std.proofs.Common.{◌≡◌, ℕ, zero, suc, ◌+◌, ◌-◌, ◌*◌, ◌<◌, ◌≤◌, min, Bool, true, false, cond, not, leb, List, [], ◌∷◌, ◌++◌, map, length, get_or, take, drop, set, sym, refl, ap, ◌∙◌, ap₂, append-nil, add-one, arith, length-append, length-drop, length-set, take-append-drop, drop_of_length-le, length-take, drop-cons, get_or-take, take-suc, get_or-set_same, drop-drop, take-suc-set, take_at, drop-set-lt, ltb-true, leb-false, leb-true, Some, None}
 use mathlib.Core.Option.{Option, none, some}
 use mir.Val.{Val}
 use denote.Laws.{Is}
@@ -26,8 +26,6 @@ use Rattle.rows.proofs.Tables.{commits}
 use Rattle.volume.specs.Snapshots.{range_says, no_range}
 use Rattle.volume.specs.declared.snapshot.LogRange.{LogRange}
 use Rattle.commits.specs.Places.{commit_at, PlaceOf, RunOfRange}
-use Rattle.commits.specs.declared.Place.{Place}
-use Rattle.commits.specs.declared.Place.TheVariants as Place
 use Rattle.paths.specs.declared.Left.{Left}
 use Rattle.paths.specs.contracts.Left.{the_type}
 use Rattle.paths.specs.Left.{lowered, other_log, leading, is_left, left_says, others, left_without, lowered_at, Meets}
@@ -59,14 +57,14 @@ module _ {A : Type 0} (f : A → Bool) where
   first_head (y ∷ ys) e = cases (f y) (λ q. absurd (missing (rw q at e) refl)) (λ q. rw q (first_head ys (rw q at e)))
 
 module _ (t : List ℕ) (r : Range) (from to : ℕ) (run : RunOfRange t r from to) where
-  pub first_missing : to ≤ from → PlaceOf t (first (in_range r) (commits_in t).rows) Place.Missing
+  pub first_missing : to ≤ from → PlaceOf t (first (in_range r) (commits_in t).rows) None
   first_missing h = record { says = sym (none_first (in_range r) (commits_in t).rows (sym run.commits ∙ stretch_end from to (commits_in t).rows h)); inside = tt }
 
   -- the run's first row, and those after it
   run_rows : from < to → those (in_range r) (commits_in t).rows ≡ commit_at t from ∷ stretch (from + 1) to (commits_in t).rows
   run_rows h = sym run.commits ∙ stretch_next commits t from to h run.places.inside.1
 
-  pub first_there : from < to → PlaceOf t (first (in_range r) (commits_in t).rows) (Place.At from)
+  pub first_there : from < to → PlaceOf t (first (in_range r) (commits_in t).rows) (Some from)
   first_there h = record { says = sym (head_first (in_range r) (commits_in t).rows (commit_at t from) _ (run_rows h)); inside = omega (arith, h, run.places.inside) }
 
 -- ---- ranges in front without commits

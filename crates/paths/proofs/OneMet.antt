@@ -1,13 +1,11 @@
 -- One commit is met next, and one path is left: the record that is met is that of the path's first commit, which stands at one place, and what is left is said outright.
-use Rattle.std.proofs.Common.{◌≡◌, ℕ, ◌+◌, true, List, ◌∷◌, get_or, sym, refl, ap, ◌∙◌, ap₂}
+use Rattle.std.proofs.Common.{◌≡◌, ℕ, ◌+◌, true, List, ◌∷◌, get_or, sym, refl, ap, ◌∙◌, ap₂, Some}
 use mathlib.Core.Option.{some}
 use Rattle.rules.specs.Records.{Commit}
 use Rattle.rules.specs.Walk.{path_commits}
 use Rattle.volume.specs.Snapshots.{no_range}
 use Rattle.layout.specs.Tables.{commits_in, commits_ok}
 use Rattle.commits.specs.Places.{commit_at}
-use Rattle.commits.specs.declared.Place.TheVariants as Place
-use Rattle.commits.specs.declared.Place.{Place}
 use Rattle.commits.proofs.OnePlace.{one_place}
 use Rattle.paths.specs.Left.{Meets, lowered_at, leading, left_says}
 use Rattle.paths.specs.declared.Left.{Left}
@@ -17,7 +15,7 @@ use Rattle.paths.specs.declared.Met.{Met}
 at_one : (t : List ℕ) → commits_ok t ≡ true → (l : Left) (m n : Met) → Meets t l m → Meets t l n → m.row ≡ n.row
 at_one t ok l m n h k =
     let e : commit_at t m.row ≡ commit_at t n.row = cc (h.here, k.here) in
-    let p : Place.At m.row ≡ Place.At n.row = one_place t ok (some (commit_at t n.row)) (Place.At m.row) (Place.At n.row) (record { says = ap some e; inside = h.inside }) (record { says = refl; inside = k.inside }) in
+    let p : Some m.row ≡ Some n.row = one_place t ok (some (commit_at t n.row)) (Some m.row) (Some n.row) (record { says = ap some e; inside = h.inside }) (record { says = refl; inside = k.inside }) in
     cc
 
 -- what is left below a commit of that LSN, from a range on

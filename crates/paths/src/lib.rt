@@ -13,7 +13,7 @@ ghost use Rattle.paths.specs.Left.{leading, is_left, left_says, left_without, Me
 use basics::id;
 use basics::id::LogId;
 use basics::lsn::Lsn;
-use commits::{Place, lsn_at, range_run};
+use commits::{lsn_at, range_run};
 use volume::snapshot::LogRange;
 
 // What is left of a path: its ranges from `at` up to `len`.
@@ -32,7 +32,7 @@ pub struct Met {
 }
 
 // Where the first commit of a range stands, the one with its highest LSN.
-fn first_in(commits: &[u8], range: LogRange) -> Place
+fn first_in(commits: &[u8], range: LogRange) -> Option<usize>
     requires { commits_ok commits.now ≡ true }
     ensures { PlaceOf commits.now (first (in_range (range_says range)) (commits_in commits.now).rows) result }
 {
@@ -40,9 +40,9 @@ fn first_in(commits: &[u8], range: LogRange) -> Place
     let run = range_run(commits, log, range.start.0, range.end.0);
     let from = run.from;
     if run.to <= from {
-        return Place::Missing;
+        return None;
     }
-    Place::At(from)
+    Some(from)
 }
 
 // The number of the first range left that has a commit, and `len` where none has.
@@ -50,17 +50,13 @@ fn next_range(commits: &[u8], left: Left) -> usize
     requires { (commits_ok commits.now ≡ true) × is_left left }
     ensures { result ≡ left.at + leading (commits_in commits.now) (left_says left) }
 {
-    let path = left.path;
-    let len = left.len;
-    let mut at = left.at;
-    while at < len {
-        let range = path[at];
-        let Place::Missing = first_in(commits, range) else {
+    for at in left.at..left.len {
+        let range = left.path[at];
+        let None = first_in(commits, range) else {
             return at;
         };
-        at += 1;
     }
-    at
+    left.len
 }
 
 // The next commit of what is left, which has one.
@@ -80,19 +76,9 @@ pub fn next_commit(commits: &[u8], left: Left) -> Met
     let end = Lsn(lsn_at(commits, row) - 1);
     path[at] = LogRange { log, start, end };
     Met {
-        row: row,
+        row,
         left: Left { path, at, len },
     }
-}
-
-// How many places there are from one up to another.
-fn run_length(from: usize, to: usize) -> usize
-    ensures { result ≡ to - from }
-{
-    if to <= from {
-        return 0;
-    }
-    to - from
 }
 
 // How many commits are left.
@@ -100,16 +86,11 @@ pub fn commits_left(commits: &[u8], left: Left) -> usize
     requires { (commits_ok commits.now ≡ true) × is_left left }
     ensures { result ≡ length (path_commits (commits_in commits.now) (left_says left)) }
 {
-    let path = left.path;
-    let len = left.len;
-    let mut at = left.at;
     let mut n: usize = 0;
-    while at < len {
-        let range = path[at];
-        let log = range.log;
-        let run = range_run(commits, log, range.start.0, range.end.0);
-        n += run_length(run.from, run.to);
-        at += 1;
+    for at in left.at..left.len {
+        let range = left.path[at];
+        let run = range_run(commits, range.log, range.start.0, range.end.0);
+        n += run.to.saturating_sub(run.from);
     }
     n
 }
@@ -121,15 +102,12 @@ pub fn without(path: [LogRange; 8], len: usize, log: LogId) -> Left
 {
     let mut kept = path;
     let mut n: usize = 0;
-    let mut i: usize = 0;
-    while i < len {
+    for i in 0..len {
         let range = path[i];
-        let named = range.log;
-        if !id::same(log, named) {
+        if !id::same(log, range.log) {
             kept[n] = range;
             n += 1;
         }
-        i += 1;
     }
     Left {
         path: kept,

@@ -1,210 +1,172 @@
 // The calls on frames, each answer against the lists.
 use crate::plain;
 use crate::plain::Plain;
-use basics::id;
 use basics::id::SegmentId;
 use basics::pageidx::PageIdx;
 use commit::{Presence, RangeAnswer, SegmentRange};
 use frames::BytesAnswer;
+use plainset::held;
 use plainset::tally::Tally;
-use plainset::{held, said, tally};
 
 // Whether what stands beside it counts.
-pub fn given(p: Presence) -> u64 {
+pub fn given(p: Presence) -> bool {
     match p {
-        Presence::Missing => 0,
-        Presence::Given => 1,
+        Presence::Missing => false,
+        Presence::Given => true,
     }
-}
-
-// Whether two identifiers are the same.
-fn same_id(t: Tally, got: SegmentId, want: SegmentId) -> Tally {
-    tally::same(t, said::truth(id::same(got, want)), 1)
 }
 
 // A range: its segment, its bytes and its pages.
 pub fn range(
-    t: Tally,
+    tally: &mut Tally,
     r: SegmentRange,
     sid: SegmentId,
     start: u64,
     end: u64,
     list: &[u32],
-) -> Tally {
-    let own = r.sid;
-    let pages = r.pages;
-    let t1 = same_id(t, own, sid);
-    let t2 = tally::same(t1, r.start, start);
-    let t3 = tally::same(t2, r.end, end);
-    held::whole(t3, pages, list)
+) {
+    tally.same(r.sid, sid);
+    tally.same(r.start, start);
+    tally.same(r.end, end);
+    held::whole(tally, r.pages, list);
 }
 
 // A range that stands for none: all of it is zero.
-pub fn no_range(t: Tally, r: SegmentRange) -> Tally {
-    let own = r.sid;
-    let pages = r.pages;
-    let t1 = same_id(t, own, [0u8; 16]);
-    let t2 = tally::same(t1, r.start, 0);
-    let t3 = tally::same(t2, r.end, 0);
-    held::blank(t3, pages)
+pub fn no_range(tally: &mut Tally, r: SegmentRange) {
+    tally.same(r.sid, [0u8; 16]);
+    tally.same(r.start, 0);
+    tally.same(r.end, 0);
+    held::blank(tally, r.pages);
 }
 
 // An answer that holds no range, under a number.
-pub fn none(t: Tally, a: RangeAnswer, code: u32) -> Tally {
+pub fn none(tally: &mut Tally, a: RangeAnswer, code: u32) {
     let found = a.found;
     let r = a.range;
-    let t1 = tally::same_u32(t, a.code, code);
-    no_range(tally::same(t1, given(found), 0), r)
+    tally.same(a.code, code);
+    tally.same(given(found), false);
+    no_range(tally, r);
 }
 
 // The number of bytes of a range that does not end before it starts.
-fn size(t: Tally, r: SegmentRange, want: u64) -> Tally {
+fn size(tally: &mut Tally, r: SegmentRange, want: u64) {
     if r.end < r.start {
-        return tally::same(t, r.end, r.start);
+        return tally.same(r.end, r.start);
     }
-    tally::same(t, ranges::size(r), want)
+    tally.same(ranges::size(r), want);
 }
 
 // A range that is frame i of the lists.
-fn frame(t: Tally, p: Plain, r: SegmentRange, i: usize) -> Tally {
-    let list = plain::pages_of(p, i);
-    let t1 = size(t, r, plain::size(p, i));
-    range(
-        t1,
-        r,
-        plain::sid(),
-        plain::start(p, i),
-        plain::end(p, i),
-        &list,
-    )
+fn frame(tally: &mut Tally, p: &Plain, r: SegmentRange, i: usize) {
+    let list = p.pages_of(i);
+    size(tally, r, p.size(i));
+    range(tally, r, plain::sid(), p.start(i), p.end(i), &list);
 }
 
-// One place of a frame list: frame i, or zeros past the last.
-fn place(t: Tally, p: Plain, r: SegmentRange, i: usize) -> Tally {
-    if i < p.len {
-        return frame(t, p, r, i);
+// The sixteen places of a frame list: the frames, and zeros past the last.
+fn places(tally: &mut Tally, p: &Plain, frames: &[SegmentRange]) {
+    for (i, r) in frames.iter().enumerate() {
+        if i < p.len {
+            frame(tally, p, *r, i);
+        } else {
+            no_range(tally, *r);
+        }
     }
-    no_range(t, r)
 }
 
-// The sixteen places of a frame list.
-fn places(t: Tally, p: Plain, frames: [SegmentRange; 16]) -> Tally {
-    let mut sum = t;
-    let mut i: usize = 0;
-    while i < 16 {
-        let r = frames[i];
-        sum = place(sum, p, r, i);
-        i += 1;
-    }
-    sum
-}
-
-// The frame list of a segment, under its number.
-pub fn list(t: Tally, p: Plain) -> Tally {
-    let got = frames::frame_list(plain::segment(p));
+// The frame list of a segment, under its number; of a refusal no frame.
+pub fn list(tally: &mut Tally, p: &Plain) {
+    let got = frames::frame_list(p.segment());
     let held = got.frames;
-    let code = plain::fault(p);
-    let t1 = tally::same_u32(t, got.code, code);
-    if code != 0 {
-        let t2 = tally::same(t1, got.len as u64, 0);
-        return places(t2, plain::counted(p, 0), held);
-    }
-    let t2 = tally::same(t1, got.len as u64, p.len as u64);
-    places(t2, p, held)
+    let code = p.fault();
+    tally.same(got.code, code);
+    let want = if code != 0 { p.counted(0) } else { *p };
+    tally.same(got.len, want.len);
+    places(tally, &want, &held);
 }
 
 // Whether a segment is in form.
-pub fn form(t: Tally, p: Plain) -> Tally {
-    let got = frames::frames_ok(plain::segment(p));
-    tally::same(t, said::truth(got), said::truth(plain::fault(p) == 0))
+pub fn form(tally: &mut Tally, p: &Plain) {
+    tally.same(frames::frames_ok(p.segment()), p.fault() == 0);
 }
 
 // The number of a page and a segment.
-fn page_fault(p: Plain, page: u32) -> u32 {
+fn page_fault(p: &Plain, page: u32) -> u32 {
     if page == 0 {
         return 1;
     }
-    plain::fault(p)
+    p.fault()
 }
 
 // The frame of a page.
-pub fn page(t: Tally, p: Plain, page: u32) -> Tally {
-    let got = frames::frame_for(plain::segment(p), PageIdx(page));
+pub fn page(tally: &mut Tally, p: &Plain, page: u32) {
+    let got = frames::frame_for(p.segment(), PageIdx(page));
     let code = page_fault(p, page);
     if code != 0 {
-        return none(t, got, code);
+        return none(tally, got, code);
     }
-    let i = plain::frame_of(p, page);
-    if i == p.len {
-        return none(t, got, 0);
-    }
+    let Some(i) = p.frame_of(page) else {
+        return none(tally, got, 0);
+    };
     let found = got.found;
     let r = got.range;
-    let t1 = tally::same_u32(t, got.code, 0);
-    frame(tally::same(t1, given(found), 1), p, r, i)
+    tally.same(got.code, 0);
+    tally.same(given(found), true);
+    frame(tally, p, r, i);
 }
 
-// A place of a frame's bytes: a number, or 0 with where it starts and ends, or none.
-fn told(t: Tally, a: BytesAnswer, code: u64, start: u64, end: u64) -> Tally {
+// Where a page's frame lies in a lent segment: from start up to but not at end, or nowhere. A refusal is an error that holds its number.
+type Place = Result<Option<(u64, u64)>, u32>;
+
+// The place that a call tells.
+fn told(a: BytesAnswer) -> Place {
     match a {
-        BytesAnswer::Refused(n) => tally::same(t, n as u64, code),
-        BytesAnswer::At(from, to) => {
-            let t1 = tally::same(t, 0, code);
-            tally::same(tally::same(t1, from as u64, start), to as u64, end)
-        }
-        BytesAnswer::Nothing => tally::same(t, NOTHING, code),
+        BytesAnswer::Refused(n) => Err(n),
+        BytesAnswer::At(from, to) => Ok(Some((from as u64, to as u64))),
+        BytesAnswer::Nothing => Ok(None),
     }
 }
 
-// What stands for no frame: above every number.
-const NOTHING: u64 = 100;
-
-// The number that the place of a page's frame earns, NOTHING where there is no frame, or 0.
-fn place_fault(p: Plain, page: u32, lent: u64) -> u64 {
+// The place that the lists say.
+fn place_of(p: &Plain, page: u32, lent: usize) -> Place {
     let code = page_fault(p, page);
     if code != 0 {
-        return code as u64;
+        return Err(code);
     }
-    let i = plain::frame_of(p, page);
-    if i == p.len {
-        return NOTHING;
+    let Some(i) = p.frame_of(page) else {
+        return Ok(None);
+    };
+    if (lent as u64) < p.end(i) {
+        return Err(23);
     }
-    if lent < plain::end(p, i) { 23 } else { 0 }
+    Ok(Some((p.start(i), p.end(i))))
 }
 
-// Where the bytes of a page's frame lie, in a lent segment of so many bytes.
-pub fn bytes(t: Tally, p: Plain, page: u32, lent: usize) -> Tally {
-    let got = frames::frame_place(plain::segment(p), PageIdx(page), lent);
-    let code = place_fault(p, page, lent as u64);
-    if code != 0 {
-        return told(t, got, code, 0, 0);
+// Where the bytes of a page's frame lie, in a lent segment of so many bytes: whether there is a place, and of a place its start and its end.
+pub fn bytes(tally: &mut Tally, p: &Plain, page: u32, lent: usize) {
+    let got = told(frames::frame_place(p.segment(), PageIdx(page), lent));
+    let want = place_of(p, page, lent);
+    tally.same(
+        got.map(|place| place.is_some()),
+        want.map(|place| place.is_some()),
+    );
+    if let (Ok(Some((from, to))), Ok(Some((start, end)))) = (got, want) {
+        tally.same(from, start);
+        tally.same(to, end);
     }
-    let i = plain::frame_of(p, page);
-    told(t, got, 0, plain::start(p, i), plain::end(p, i))
 }
 
-// The bytes of a slice from start to end; none where they are not there.
-fn part_of<'a>(s: &'a [u8], start: u64, end: u64) -> &'a [u8] {
-    let len = s.len() as u64;
-    if len < end {
-        return &s[0..0];
+// The bytes that the lists say of a page's frame in a lent segment; none where it has no place there.
+fn part_of<'a>(p: &Plain, page: u32, lent: &'a [u8]) -> &'a [u8] {
+    match place_of(p, page, lent.len()) {
+        Ok(Some((start, end))) => lent.get(start as usize..end as usize).unwrap_or(&[]),
+        _ => &[],
     }
-    if end < start {
-        return &s[0..0];
-    }
-    let from = start as usize;
-    let to = end as usize;
-    &s[from..to]
 }
 
 // The bytes that a page's frame has in a lent segment, and where they lie.
-pub fn part(t: Tally, p: Plain, page: u32, lent: &[u8]) -> Tally {
-    let got = frames::frame_bytes(plain::segment(p), PageIdx(page), lent);
-    let t1 = bytes(t, p, page, lent.len());
-    if place_fault(p, page, lent.len() as u64) != 0 {
-        return tally::same(t1, got.len() as u64, 0);
-    }
-    let i = plain::frame_of(p, page);
-    let want = part_of(lent, plain::start(p, i), plain::end(p, i));
-    tally::same(t1, said::truth(check::same(got, want)), 1)
+pub fn part(tally: &mut Tally, p: &Plain, page: u32, lent: &[u8]) {
+    let got = frames::frame_bytes(p.segment(), PageIdx(page), lent);
+    bytes(tally, p, page, lent.len());
+    tally.same(got, part_of(p, page, lent));
 }

@@ -1,11 +1,10 @@
 // Joining two ranges, each answer against lists of their pages.
 use crate::asked;
-use basics::id;
 use basics::id::SegmentId;
 use commit::{RangeAnswer, SegmentRange};
 use plainset::held::Held;
 use plainset::tally::Tally;
-use plainset::{held, naive, tally};
+use plainset::{held, naive};
 
 // A run of a segment's bytes, and its set beside the list of its pages.
 #[derive(Clone, Copy)]
@@ -16,77 +15,65 @@ pub struct Piece {
     pub held: Held,
 }
 
-// The piece by value.
-fn range_of(p: Piece) -> SegmentRange {
-    let sid = p.sid;
-    let held = p.held;
-    let pages = held.set;
-    SegmentRange {
-        sid,
-        start: p.start,
-        end: p.end,
-        pages,
+impl Piece {
+    // The piece by value.
+    fn range(&self) -> SegmentRange {
+        let sid = self.sid;
+        let pages = self.held.set;
+        SegmentRange {
+            sid,
+            start: self.start,
+            end: self.end,
+            pages,
+        }
     }
-}
 
-// The pages of either set.
-fn both(a: Held, b: Held) -> [u32; 256] {
-    let pages = a.pages;
-    let others = b.pages;
-    naive::both(pages, &others)
+    // Whether a piece ends before it starts.
+    fn is_reversed(&self) -> bool {
+        self.end < self.start
+    }
 }
 
 // Two pieces that touch, the first ending where the second starts: their pages together, or 22 where these lie in over 32 blocks of 64.
-fn touched(t: Tally, a: RangeAnswer, first: Piece, second: Piece) -> Tally {
-    let list = both(first.held, second.held);
+fn touched(tally: &mut Tally, a: RangeAnswer, first: &Piece, second: &Piece) {
+    let list = naive::both(first.held.pages, &second.held.pages);
     let code = held::room_code(&list);
     if code != 0 {
-        return asked::none(t, a, code);
+        return asked::none(tally, a, code);
     }
     let found = a.found;
     let r = a.range;
-    let sid = first.sid;
-    let t1 = tally::same_u32(t, a.code, 0);
-    let t2 = tally::same(t1, asked::given(found), 1);
-    asked::range(t2, r, sid, first.start, second.end, &list)
-}
-
-// Whether a piece ends before it starts.
-fn is_reversed(p: Piece) -> bool {
-    p.end < p.start
+    tally.same(a.code, 0);
+    tally.same(asked::given(found), true);
+    asked::range(tally, r, first.sid, first.start, second.end, &list);
 }
 
 // An answer to two pieces of one segment.
-fn of_one(t: Tally, a: RangeAnswer, left: Piece, right: Piece) -> Tally {
+fn of_one(tally: &mut Tally, a: RangeAnswer, left: &Piece, right: &Piece) {
     if left.end == right.start {
-        return touched(t, a, left, right);
+        return touched(tally, a, left, right);
     }
     if right.end == left.start {
-        return touched(t, a, right, left);
+        return touched(tally, a, right, left);
     }
-    asked::none(t, a, 0)
+    asked::none(tally, a, 0);
 }
 
 // Two pieces joined.
-pub fn join(t: Tally, left: Piece, right: Piece) -> Tally {
-    let got = ranges::join(range_of(left), range_of(right));
-    if is_reversed(left) {
-        return asked::none(t, got, 2);
+pub fn join(tally: &mut Tally, left: &Piece, right: &Piece) {
+    let got = ranges::join(left.range(), right.range());
+    if left.is_reversed() || right.is_reversed() {
+        return asked::none(tally, got, 2);
     }
-    if is_reversed(right) {
-        return asked::none(t, got, 2);
+    if left.sid != right.sid {
+        return asked::none(tally, got, 0);
     }
-    let a = left.sid;
-    let b = right.sid;
-    if !id::same(a, b) {
-        return asked::none(t, got, 0);
-    }
-    of_one(t, got, left, right)
+    of_one(tally, got, left, right);
 }
 
 // Two pieces joined, either way round, and each with itself.
-pub fn pair(t: Tally, a: Piece, b: Piece) -> Tally {
-    let t1 = join(t, a, b);
-    let t2 = join(t1, b, a);
-    join(join(t2, a, a), b, b)
+pub fn pair(tally: &mut Tally, a: &Piece, b: &Piece) {
+    for (left, right) in [(a, b), (b, a), (a, a), (b, b)] {
+        join(tally, left, right);
+    }
 }

@@ -3,193 +3,108 @@ use basics::id::SegmentId;
 use basics::pageidx::PageIdx;
 use commit::{Frame, SegmentIdx};
 use plainset::held::Held;
+use plainset::naive::Pages;
 use plainset::{naive, random};
-use std::num;
 
-// A set beside the list of its pages, and the frames as two lists: their sizes, and their last pages. The first `len` count.
+// A set beside the list of its pages, and the frames. The first `len` count; it may say more than there are, and is refused then.
 #[derive(Clone, Copy)]
 pub struct Plain {
     pub held: Held,
     pub len: usize,
-    pub sizes: [u64; 16],
-    pub lasts: [u32; 16],
+    pub frames: [Frame; 16],
 }
 
-// A segment without frames.
-pub fn bare(held: Held) -> Plain {
-    let sizes = [0u64; 16];
-    let lasts = [0u32; 16];
-    Plain {
-        held,
-        len: 0,
-        sizes,
-        lasts,
+impl Plain {
+    // A segment without frames.
+    pub fn bare(held: Held) -> Plain {
+        let frames = commit::no_frames();
+        Plain {
+            held,
+            len: 0,
+            frames,
+        }
     }
-}
 
-// The segment with a frame more; as it was where it has 16.
-pub fn with(p: Plain, size: u64, last: u32) -> Plain {
-    let held = p.held;
-    let len = p.len;
-    let mut sizes = p.sizes;
-    let mut lasts = p.lasts;
-    if 16 <= len {
-        return p;
+    // The segment with a frame more; as it was where it has 16.
+    pub fn with(self, size: u64, last: u32) -> Plain {
+        let mut more = self;
+        if more.len < 16 {
+            let last = PageIdx(last);
+            more.frames[more.len] = Frame { size, last };
+            more.len += 1;
+        }
+        more
     }
-    sizes[len] = size;
-    lasts[len] = last;
-    Plain {
-        held,
-        len: len + 1,
-        sizes,
-        lasts,
-    }
-}
 
-// The same lists, with another number of frames that count.
-pub fn counted(p: Plain, len: usize) -> Plain {
-    let held = p.held;
-    let sizes = p.sizes;
-    let lasts = p.lasts;
-    Plain {
-        held,
-        len,
-        sizes,
-        lasts,
+    // The same lists, with another number of frames that count.
+    pub fn counted(self, len: usize) -> Plain {
+        Plain { len, ..self }
+    }
+
+    // The segment by value.
+    pub fn segment(&self) -> SegmentIdx {
+        SegmentIdx::new(sid(), self.held.set).with_frames(self.len, self.frames)
+    }
+
+    // The size of frame i; 0 where there is none.
+    pub fn size(&self, i: usize) -> u64 {
+        self.frames.get(i).map_or(0, |frame| frame.size)
+    }
+
+    // The last page of frame i; 0 where there is none.
+    fn last(&self, i: usize) -> u32 {
+        self.frames.get(i).map_or(0, |frame| frame.last.0)
+    }
+
+    // The first page of frame i: that after the last page of the frame before; of the first frame the lowest page of the list, or page 1.
+    fn first(&self, i: usize) -> u64 {
+        match i.checked_sub(1) {
+            Some(before) => u64::from(self.last(before)) + 1,
+            None => u64::from(naive::lowest(&self.held.pages).unwrap_or(1)),
+        }
+    }
+
+    // The byte at which frame i starts: the sum of the sizes before it.
+    pub fn start(&self, i: usize) -> u64 {
+        self.frames
+            .iter()
+            .take(i)
+            .fold(0u64, |sum, frame| sum.wrapping_add(frame.size))
+    }
+
+    // The byte at which frame i ends.
+    pub fn end(&self, i: usize) -> u64 {
+        self.start(i).wrapping_add(self.size(i))
+    }
+
+    // Whether frame i is out of the domain: it ends below its first page, or its bytes end above 2^64-1.
+    fn is_bad(&self, i: usize) -> bool {
+        u64::from(self.last(i)) < self.first(i) || self.end(i) < self.start(i)
+    }
+
+    // The number of a segment: 3 where there are over 16 frames, or one is out of the domain; else 0.
+    pub fn fault(&self) -> u32 {
+        if 16 < self.len || (0..self.len).any(|i| self.is_bad(i)) {
+            3
+        } else {
+            0
+        }
+    }
+
+    // The pages of frame i: those of the list from its first page to its last.
+    pub fn pages_of(&self, i: usize) -> Pages {
+        let first = random::clipped(self.first(i));
+        let last = self.last(i);
+        naive::kept(self.held.pages, |p| naive::is_within(p, first, last))
+    }
+
+    // The first frame that has a page.
+    pub fn frame_of(&self, page: u32) -> Option<usize> {
+        (0..self.len).find(|i| naive::has(&self.pages_of(*i), page))
     }
 }
 
 // The segment of all that is tried.
 pub fn sid() -> SegmentId {
     [83u8; 16]
-}
-
-// The segment by value.
-pub fn segment(p: Plain) -> SegmentIdx {
-    let sizes = p.sizes;
-    let lasts = p.lasts;
-    let held = p.held;
-    let mut frames = commit::no_frames();
-    let mut i: usize = 0;
-    while i < 16 {
-        frames[i] = Frame {
-            size: sizes[i],
-            last: PageIdx(lasts[i]),
-        };
-        i += 1;
-    }
-    SegmentIdx::new(sid(), held.set).with_frames(p.len, frames)
-}
-
-// The i-th size; 0 where there is none.
-fn size_of(sizes: &[u64], i: usize) -> u64 {
-    if i < sizes.len() { sizes[i] } else { 0 }
-}
-
-// The i-th last page; 0 where there is none.
-fn last_of(lasts: &[u32], i: usize) -> u32 {
-    if i < lasts.len() { lasts[i] } else { 0 }
-}
-
-// The first page of frame i: that after the last page of the frame before; of the first frame the lowest page of the list, or page 1.
-fn first_of(list: &[u32], lasts: &[u32], i: usize) -> u64 {
-    if i != 0 {
-        return last_of(lasts, i - 1) as u64 + 1;
-    }
-    let lowest = naive::lowest(list);
-    if lowest == 0 { 1 } else { lowest as u64 }
-}
-
-// The sum of the sizes before frame i.
-fn bytes_before(sizes: &[u64], i: usize) -> u64 {
-    let mut sum: u64 = 0;
-    let mut k: usize = 0;
-    while k < i {
-        sum = num::wrapping_add_u64(sum, size_of(sizes, k));
-        k += 1;
-    }
-    sum
-}
-
-// The same with its own.
-fn bytes_to(sizes: &[u64], i: usize) -> u64 {
-    num::wrapping_add_u64(bytes_before(sizes, i), size_of(sizes, i))
-}
-
-// Whether frame i is out of the domain: it ends below its first page, or its bytes end above 2^64-1.
-fn is_bad(list: &[u32], sizes: &[u64], lasts: &[u32], i: usize) -> bool {
-    if (last_of(lasts, i) as u64) < first_of(list, lasts, i) {
-        return true;
-    }
-    bytes_to(sizes, i) < bytes_before(sizes, i)
-}
-
-// The number of a segment: 3 where there are over 16 frames, or one is out of the domain; else 0.
-fn list_fault(list: &[u32], sizes: &[u64], lasts: &[u32], n: usize) -> u32 {
-    if 16 < n {
-        return 3;
-    }
-    let mut i: usize = 0;
-    while i < n {
-        if is_bad(list, sizes, lasts, i) {
-            return 3;
-        }
-        i += 1;
-    }
-    0
-}
-
-// The number of a segment.
-pub fn fault(p: Plain) -> u32 {
-    let held = p.held;
-    let list = held.pages;
-    let sizes = p.sizes;
-    let lasts = p.lasts;
-    list_fault(&list, &sizes, &lasts, p.len)
-}
-
-// The size of frame i.
-pub fn size(p: Plain, i: usize) -> u64 {
-    let sizes = p.sizes;
-    size_of(&sizes, i)
-}
-
-// The byte at which frame i starts.
-pub fn start(p: Plain, i: usize) -> u64 {
-    let sizes = p.sizes;
-    bytes_before(&sizes, i)
-}
-
-// The byte at which frame i ends.
-pub fn end(p: Plain, i: usize) -> u64 {
-    let sizes = p.sizes;
-    bytes_to(&sizes, i)
-}
-
-// The pages of frame i: those of the list from its first page to its last.
-pub fn pages_of(p: Plain, i: usize) -> [u32; 256] {
-    let held = p.held;
-    let list = held.pages;
-    let lasts = p.lasts;
-    let first = random::clipped(first_of(&list, &lasts, i));
-    naive::between(list, first, last_of(&lasts, i), true)
-}
-
-// Whether frame i has a page.
-fn has_page(p: Plain, i: usize, page: u32) -> bool {
-    let pages = pages_of(p, i);
-    naive::has(&pages, page)
-}
-
-// The first frame that has a page; past the last where none has.
-pub fn frame_of(p: Plain, page: u32) -> usize {
-    let n = p.len;
-    let mut i: usize = 0;
-    while i < n {
-        if has_page(p, i, page) {
-            return i;
-        }
-        i += 1;
-    }
-    n
 }

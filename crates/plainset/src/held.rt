@@ -1,6 +1,7 @@
 // A set beside the list of its pages, and each call's answer against the list's.
+use crate::naive::Pages;
 use crate::tally::Tally;
-use crate::{naive, said, tally};
+use crate::{naive, said};
 use basics::page_count::PageCount;
 use basics::pageidx::PageIdx;
 use pageset::{CutAnswer, PageSet, SetAnswer, sets};
@@ -9,7 +10,7 @@ use pageset::{CutAnswer, PageSet, SetAnswer, sets};
 #[derive(Clone, Copy)]
 pub struct Held {
     pub set: PageSet,
-    pub pages: [u32; 256],
+    pub pages: Pages,
 }
 
 // The set of no page.
@@ -20,99 +21,65 @@ pub fn empty() -> Held {
 }
 
 // Whether page p is in a set.
-fn at_page(t: Tally, s: PageSet, list: &[u32], p: u32) -> Tally {
-    tally::same(
-        t,
+fn at_page(tally: &mut Tally, s: PageSet, list: &[u32], p: u32) {
+    tally.same(
         said::yes(pagecalls::contains(s, PageIdx(p))),
         said::contains(list, p),
-    )
-}
-
-// Whether page p and the pages beside it are in a set; nothing is asked where there is no page.
-fn around_page(t: Tally, s: PageSet, list: &[u32], p: u32) -> Tally {
-    if p == 0 {
-        return t;
-    }
-    let t1 = at_page(t, s, list, naive::below(p));
-    let t2 = at_page(t1, s, list, p);
-    at_page(t2, s, list, naive::above(p))
-}
-
-// Each page of a list, and the pages beside it.
-fn around_pages(t: Tally, s: PageSet, list: &[u32]) -> Tally {
-    let mut sum = t;
-    let mut i: usize = 0;
-    while i < list.len() {
-        sum = around_page(sum, s, list, list[i]);
-        i += 1;
-    }
-    sum
+    );
 }
 
 // The size, the first page and the last page of a set.
-pub fn ends(t: Tally, s: PageSet, list: &[u32]) -> Tally {
-    let t1 = tally::same(t, said::count(pagecalls::cardinality(s)), naive::size(list));
-    let t2 = tally::same(
-        t1,
-        said::page(pagecalls::first(s)),
-        said::page_or_nothing(naive::lowest(list)),
+pub fn ends(tally: &mut Tally, s: PageSet, list: &[u32]) {
+    tally.same(
+        said::count(pagecalls::cardinality(s)),
+        Ok(naive::size(list)),
     );
-    tally::same(
-        t2,
-        said::page(pagecalls::last(s)),
-        said::page_or_nothing(naive::highest(list)),
-    )
+    tally.same(said::page(pagecalls::first(s)), Ok(naive::lowest(list)));
+    tally.same(said::page(pagecalls::last(s)), Ok(naive::highest(list)));
 }
 
-// A set has the pages of a list and no other.
-pub fn whole(t: Tally, s: PageSet, list: &[u32]) -> Tally {
-    around_pages(ends(t, s, list), s, list)
+// A set has the pages of a list and no other: its ends, and each page and the pages beside it.
+pub fn whole(tally: &mut Tally, s: PageSet, list: &[u32]) {
+    ends(tally, s, list);
+    for p in list.iter().filter(|p| **p != 0) {
+        for beside in naive::around(*p) {
+            at_page(tally, s, list, beside);
+        }
+    }
 }
 
 // A set has the pages of the list beside it.
-pub fn own(t: Tally, h: Held) -> Tally {
-    let list = h.pages;
-    whole(t, h.set, &list)
+pub fn own(tally: &mut Tally, h: &Held) {
+    whole(tally, h.set, &h.pages);
 }
 
 // Whether a set is the empty set: no windows, and nothing past them.
 fn is_blank(s: PageSet) -> bool {
-    let ws = s.windows;
-    let mut i: usize = 0;
-    while i < 32 {
-        let w = ws[i];
-        if w.index != 0 {
-            return false;
-        }
-        if w.mask != 0 {
-            return false;
-        }
-        i += 1;
-    }
-    s.len == 0
+    s.len == 0 && s.windows.iter().all(|w| w.index == 0 && w.mask == 0)
 }
 
 // A refused set is the empty set.
-pub fn blank(t: Tally, s: PageSet) -> Tally {
-    tally::same(t, said::truth(is_blank(s)), 1)
+pub fn blank(tally: &mut Tally, s: PageSet) {
+    tally.same(is_blank(s), true);
 }
 
 // A set answer: a number, and the pages of a list or the empty set.
-pub fn answer(t: Tally, a: SetAnswer, code: u32, list: &[u32]) -> Tally {
-    let t1 = tally::same_u32(t, a.code, code);
+pub fn answer(tally: &mut Tally, a: SetAnswer, code: u32, list: &[u32]) {
+    tally.same(a.code, code);
     let s = a.set;
     if code != 0 {
-        return blank(t1, s);
+        return blank(tally, s);
     }
-    whole(t1, s, list)
+    whole(tally, s, list);
 }
 
 // The pages that a cut finds common, and those that it leaves.
-fn cut_answer(t: Tally, a: CutAnswer, common: &[u32], left: &[u32]) -> Tally {
-    let t1 = tally::same_u32(t, a.code, 0);
+fn cut_answer(tally: &mut Tally, a: CutAnswer, common: &[u32], left: &[u32]) {
+    tally.same(a.code, 0);
     let c = a.common;
     let l = a.left;
-    whole(whole(t1, c, common), l, left)
+    whole(tally, c, common);
+    whole(tally, l, left);
 }
 
 // 22 where the pages of a list lie in more than 32 blocks of 64.
@@ -121,30 +88,27 @@ pub fn room_code(list: &[u32]) -> u32 {
 }
 
 // The union of two sets.
-pub fn union(t: Tally, a: Held, b: Held) -> Tally {
-    let pages = a.pages;
-    let others = b.pages;
-    let list = naive::both(pages, &others);
+pub fn union(tally: &mut Tally, a: &Held, b: &Held) {
+    let list = naive::both(a.pages, &b.pages);
     let got = pagecalls::union(a.set, b.set);
-    answer(t, got, room_code(&list), &list)
+    answer(tally, got, room_code(&list), &list);
 }
 
 // The cut of two sets.
-pub fn cut(t: Tally, a: Held, b: Held) -> Tally {
-    let pages = a.pages;
-    let others = b.pages;
-    let common = naive::against(pages, &others, true);
-    let left = naive::against(pages, &others, false);
-    cut_answer(t, pagecalls::cut(a.set, b.set), &common, &left)
+pub fn cut(tally: &mut Tally, a: &Held, b: &Held) {
+    let common = naive::kept(a.pages, |p| naive::has(&b.pages, p));
+    let left = naive::kept(a.pages, |p| !naive::has(&b.pages, p));
+    cut_answer(tally, pagecalls::cut(a.set, b.set), &common, &left);
 }
 
 // Two sets together, either way round, and one with itself.
-pub fn pair(t: Tally, a: Held, b: Held) -> Tally {
-    let t1 = union(t, a, b);
-    let t2 = union(t1, b, a);
-    let t3 = cut(t2, a, b);
-    let t4 = cut(t3, b, a);
-    cut(union(t4, a, a), a, a)
+pub fn pair(tally: &mut Tally, a: &Held, b: &Held) {
+    union(tally, a, b);
+    union(tally, b, a);
+    cut(tally, a, b);
+    cut(tally, b, a);
+    union(tally, a, a);
+    cut(tally, a, a);
 }
 
 // The number that an insertion earns.
@@ -156,31 +120,26 @@ fn insert_code(list: &[u32], p: u32) -> u32 {
 }
 
 // An insertion's number, and whether the page was new.
-pub fn insert_number(t: Tally, h: Held, p: u32) -> Tally {
+pub fn insert_number(tally: &mut Tally, h: &Held, p: u32) {
     let got = pagecalls::insert(h.set, PageIdx(p));
-    let before = h.pages;
-    let after = naive::joined(before, p);
-    let code = insert_code(&after, p);
-    let t1 = tally::same_u32(t, got.code, code);
-    if code != 0 {
-        return tally::same(t1, said::truth(got.new), 0);
-    }
-    tally::same(
-        t1,
-        said::truth(got.new),
-        said::truth(!naive::has(&before, p)),
-    )
+    let code = insert_code(&naive::joined(h.pages, p), p);
+    tally.same(got.code, code);
+    tally.same(got.new, code == 0 && !naive::has(&h.pages, p));
 }
 
 // An insertion, and the set that it gives.
-pub fn insert(t: Tally, h: Held, p: u32) -> Tally {
-    let t1 = insert_number(t, h, p);
+pub fn insert(tally: &mut Tally, h: &Held, p: u32) {
+    insert_number(tally, h, p);
     let got = pagecalls::insert(h.set, PageIdx(p));
-    let before = h.pages;
-    let after = naive::joined(before, p);
+    let after = naive::joined(h.pages, p);
     let set = got.set;
     let code = got.code;
-    answer(t1, SetAnswer { code, set }, insert_code(&after, p), &after)
+    answer(
+        tally,
+        SetAnswer { code, set },
+        insert_code(&after, p),
+        &after,
+    );
 }
 
 // The set with page p by the call, beside the list with page p; both as they were where the call refuses.
@@ -190,43 +149,32 @@ pub fn grown(h: Held, p: u32) -> Held {
         return h;
     }
     let set = got.set;
-    let before = h.pages;
-    let pages = naive::joined(before, p);
+    let pages = naive::joined(h.pages, p);
     Held { set, pages }
 }
 
 // The set of a draw, by insertions.
 pub fn built(draws: &[u32]) -> Held {
-    let mut h = empty();
-    let mut i: usize = 0;
-    while i < draws.len() {
-        let more = grown(h, draws[i]);
-        h = more;
-        i += 1;
-    }
-    h
+    draws.iter().fold(empty(), |held, p| grown(held, *p))
 }
 
 // The pages up to n.
-pub fn truncate(t: Tally, h: Held, n: u32) -> Tally {
-    let pages = h.pages;
-    let list = naive::between(pages, 1, n, true);
-    answer(t, pagecalls::truncate(h.set, PageCount(n)), 0, &list)
+pub fn truncate(tally: &mut Tally, h: &Held, n: u32) {
+    let list = naive::kept(h.pages, |p| p <= n);
+    answer(tally, pagecalls::truncate(h.set, PageCount(n)), 0, &list);
 }
 
 // The pages not from a to b.
-pub fn remove(t: Tally, h: Held, a: u32, b: u32) -> Tally {
-    let pages = h.pages;
-    let list = naive::between(pages, a, b, false);
+pub fn remove(tally: &mut Tally, h: &Held, a: u32, b: u32) {
+    let list = naive::kept(h.pages, |p| !naive::is_within(p, a, b));
     let got = pagecalls::remove_page_range(h.set, PageIdx(a), PageIdx(b));
-    answer(t, got, said::range_fault(a, b), &list)
+    answer(tally, got, said::range_fault(a, b), &list);
 }
 
 // Whether some page, and whether each page, from a to b is in the set.
-pub fn range(t: Tally, h: Held, a: u32, b: u32) -> Tally {
-    let list = h.pages;
+pub fn range(tally: &mut Tally, h: &Held, a: u32, b: u32) {
     let any = said::yes(pagecalls::contains_any(h.set, PageIdx(a), PageIdx(b)));
-    let t1 = tally::same(t, any, said::contains_any(&list, a, b));
+    tally.same(any, said::contains_any(&h.pages, a, b));
     let all = said::yes(pagecalls::contains_all(h.set, PageIdx(a), PageIdx(b)));
-    tally::same(t1, all, said::contains_all(&list, a, b))
+    tally.same(all, said::contains_all(&h.pages, a, b));
 }

@@ -1,87 +1,62 @@
-// Answers as numbers, so that two answers are compared as one number each: the calls' answers, and the answers that a list of pages gives.
+// Answers in one form, so that two answers are compared by `==`: the calls' answers, and the answers that a list of pages gives. A refusal is an error that holds its number.
 use crate::naive;
-use pagecalls::{CountAnswer, PageAnswer, YesAnswer};
-
-// A refusal: above every page and every count.
-pub fn refused(code: u32) -> u64 {
-    1099511627776 + code as u64
-}
-
-// No page: above every page, below every refusal.
-const NOTHING: u64 = 549755813888;
+use basics::page_count::PageCount;
+use basics::pageidx::PageIdx;
+use basics::refusal::Refusal;
 
 // A call's yes or no.
-pub fn yes(a: YesAnswer) -> u64 {
+pub fn yes(a: Result<bool, Refusal>) -> Result<bool, u32> {
     match a {
-        YesAnswer::Refused(code) => refused(code),
-        YesAnswer::Yes => 1,
-        YesAnswer::No => 0,
+        Err(refusal) => Err(refusal.number()),
+        Ok(answer) => Ok(answer),
     }
 }
 
-// A call's page.
-pub fn page(a: PageAnswer) -> u64 {
+// A call's page, or none.
+pub fn page(a: Result<Option<PageIdx>, Refusal>) -> Result<Option<u32>, u32> {
     match a {
-        PageAnswer::Refused(code) => refused(code),
-        PageAnswer::At(p) => p.0 as u64,
-        PageAnswer::Nothing => NOTHING,
+        Err(refusal) => Err(refusal.number()),
+        Ok(Some(p)) => Ok(Some(p.0)),
+        Ok(None) => Ok(None),
     }
 }
 
 // A call's count.
-pub fn count(a: CountAnswer) -> u64 {
+pub fn count(a: Result<PageCount, Refusal>) -> Result<u64, u32> {
     match a {
-        CountAnswer::Refused(code) => refused(code),
-        CountAnswer::Count(n) => n.0 as u64,
+        Err(refusal) => Err(refusal.number()),
+        Ok(n) => Ok(u64::from(n.0)),
     }
-}
-
-// Yes or no.
-pub fn truth(b: bool) -> u64 {
-    if b { 1 } else { 0 }
-}
-
-// A list's page, where 0 is no page.
-pub fn page_or_nothing(p: u32) -> u64 {
-    if p == 0 { NOTHING } else { p as u64 }
 }
 
 // The number that a range of pages earns, or 0.
 pub fn range_fault(a: u32, b: u32) -> u32 {
-    if a == 0 {
+    if a == 0 || b == 0 {
         return 1;
     }
-    if b == 0 {
-        return 1;
-    }
-    if b < a {
-        return 2;
-    }
-    0
+    if b < a { 2 } else { 0 }
 }
 
 // Whether a list has page p.
-pub fn contains(list: &[u32], p: u32) -> u64 {
+pub fn contains(list: &[u32], p: u32) -> Result<bool, u32> {
     if p == 0 {
-        return refused(1);
+        return Err(1);
     }
-    truth(naive::has(list, p))
+    Ok(naive::has(list, p))
 }
 
 // Whether a list has some page from a to b.
-pub fn contains_any(list: &[u32], a: u32, b: u32) -> u64 {
-    let fault = range_fault(a, b);
-    if fault != 0 {
-        return refused(fault);
+pub fn contains_any(list: &[u32], a: u32, b: u32) -> Result<bool, u32> {
+    match range_fault(a, b) {
+        0 => Ok(naive::count_within(list, a, b) != 0),
+        fault => Err(fault),
     }
-    truth(naive::count_within(list, a, b) != 0)
 }
 
 // Whether a list has each page from a to b.
-pub fn contains_all(list: &[u32], a: u32, b: u32) -> u64 {
-    let fault = range_fault(a, b);
-    if fault != 0 {
-        return refused(fault);
+pub fn contains_all(list: &[u32], a: u32, b: u32) -> Result<bool, u32> {
+    match range_fault(a, b) {
+        0 => Ok(naive::count_within(list, a, b) == naive::span(a, b)),
+        fault => Err(fault),
     }
-    truth(naive::count_within(list, a, b) == naive::span(a, b))
 }

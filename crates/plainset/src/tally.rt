@@ -1,47 +1,35 @@
 // Comparisons and differences, counted and written out.
+use std::fmt::{Display, Formatter};
 use std::io::Write;
-use std::{io, num};
+use std::{fmt, io};
 
 // How many answers were compared, and how many of them differed.
-#[derive(Clone, Copy)]
+#[derive(Clone, Copy, Default)]
 pub struct Tally {
     pub compared: u64,
     pub differing: u64,
 }
 
-// Nothing compared yet.
-pub fn none() -> Tally {
-    Tally {
-        compared: 0,
-        differing: 0,
+impl Tally {
+    // One comparison more: what a call answered, and what the list says.
+    pub fn same<T: PartialEq + Drop>(&mut self, got: T, want: T) {
+        self.compared = self.compared.wrapping_add(1);
+        if got != want {
+            self.differing = self.differing.wrapping_add(1);
+        }
     }
 }
 
-// One comparison more: what a call answered, and what the list says.
-pub fn same(t: Tally, got: u64, want: u64) -> Tally {
-    let compared = num::wrapping_add_u64(t.compared, 1);
-    if got == want {
-        return Tally {
-            compared,
-            differing: t.differing,
-        };
+impl Display for Tally {
+    fn fmt<W: fmt::Write>(&self, f: &mut Formatter<W>) -> fmt::Result {
+        let compared = self.compared;
+        let differing = self.differing;
+        write!(f, "{compared} comparisons, {differing} differences")
     }
-    let differing = num::wrapping_add_u64(t.differing, 1);
-    Tally {
-        compared,
-        differing,
-    }
-}
-
-// A comparison of two numbers of 32 bits.
-pub fn same_u32(t: Tally, got: u32, want: u32) -> Tally {
-    same(t, got as u64, want as u64)
 }
 
 // Writes one line: what was compared, and both counts.
 pub fn report(to: &mut impl Write, name: &[u8], t: Tally) -> io::Result<()> {
     to.write_all(name)?;
-    let compared = t.compared;
-    let differing = t.differing;
-    writeln!(to, ": {compared} comparisons, {differing} differences")
+    writeln!(to, ": {t}")
 }

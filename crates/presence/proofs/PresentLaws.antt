@@ -1,5 +1,5 @@
 -- The presence table in bytes: a record is its key, so the bytes that name a page are its record, and the pages from a to b are the run from b's key to a's.
-use Rattle.std.proofs.Common.{◌≡◌, ℕ, ◌+◌, ◌*◌, ◌^◌, ◌<◌, ◌≤◌, Bool, true, false, cond, List, ◌++◌, length, take, drop, sym, refl, ap, ◌∙◌, subst, arith}
+use Rattle.std.proofs.Common.{◌≡◌, ℕ, ◌+◌, ◌*◌, ◌^◌, ◌<◌, ◌≤◌, Bool, true, false, cond, List, ◌++◌, length, take, drop, sym, refl, ap, ◌∙◌, subst, arith, Ok, Err}
 use mathlib.Core.Option.{Option, none, some}
 use Rattle.octets.specs.Bytes.{part, AreBytes}
 use Rattle.octets.specs.Order.{lex, is_equal}
@@ -17,7 +17,6 @@ use Rattle.table.specs.Records as T
 use Rattle.table.specs.Table.{recs, count_of, laid}
 use Rattle.table.specs.Table as B
 use Rattle.table.specs.Run.{RunOf}
-use Rattle.table.specs.declared.Spot.TheVariants.{At, Gap}
 use Rattle.table.proofs.Rows.{key_at}
 use Rattle.layout.specs.Records.{sid_page_bytes, present_bytes}
 use Rattle.layout.specs.Tables.{presence_in, presence_ok, laid_over}
@@ -48,10 +47,10 @@ module _ (t : List ℕ) (e : presence_ok t ≡ true) where
   -- ---- lookups
 
   module _ (kb : List ℕ) (sid : Id) (page : ℕ) (n : Names presence kb (sid, page)) (i : ℕ) where
-    pub there : spot 21 kb (recs 21 t) ≡ At i → true ≡ is_some (get_present (presence_in t) sid page)
+    pub there : spot 21 kb (recs 21 t) ≡ Ok i → true ≡ is_some (get_present (presence_in t) sid page)
     there p = sym (ap is_some (get_at presence kb (sid, page) n t e i p))
 
-    pub missing : spot 21 kb (recs 21 t) ≡ Gap i → false ≡ is_some (get_present (presence_in t) sid page)
+    pub missing : spot 21 kb (recs 21 t) ≡ Err i → false ≡ is_some (get_present (presence_in t) sid page)
     missing p = sym (ap is_some (get_gap presence kb (sid, page) n t e i p))
 
   -- the segment's highest page would stand at the place of the last page

@@ -16,7 +16,6 @@ use basics::id::SegmentId;
 use basics::pageidx::PageIdx;
 use entries::present_key;
 use layout::PRESENT;
-use table::Spot;
 
 // Whether a page of a segment is present.
 pub fn is_present(t: &[u8], sid: SegmentId, page: PageIdx) -> bool
@@ -25,8 +24,8 @@ pub fn is_present(t: &[u8], sid: SegmentId, page: PageIdx) -> bool
 {
     let key = present_key(sid, page);
     match table::find(t, PRESENT, PRESENT, &key) {
-        Spot::At(_) => true,
-        Spot::Gap(_) => false,
+        Ok(_) => true,
+        Err(_) => false,
     }
 }
 

@@ -11,24 +11,24 @@ ghost use Rattle.layout.specs.Lent.{lent, after};
 
 use basics::id::SegmentId;
 use basics::pageidx::PageIdx;
+use basics::refusal::Refusal;
 use entries::presence_formed;
-use pagecalls::YesAnswer;
 use presence::{is_present, put_page, remove_pages, room_for_page};
 
 // Whether a page of a segment is present: 20, 1.
-pub fn page_present(presence: &[u8], sid: SegmentId, page: PageIdx) -> YesAnswer
+pub fn page_present(presence: &[u8], sid: SegmentId, page: PageIdx) -> Result<bool, Refusal>
     ensures { yes_says result ≡ lent (presence_ok presence.now) (page_present (presence_in presence.now) sid page.0) }
 {
     if !presence_formed(presence) {
-        return YesAnswer::Refused(20);
+        return Err(Refusal::TableForm);
     }
     if page.0 == 0 {
-        return YesAnswer::Refused(1);
+        return Err(Refusal::Zero);
     }
     if is_present(presence, sid, page) {
-        return YesAnswer::Yes;
+        return Ok(true);
     }
-    YesAnswer::No
+    Ok(false)
 }
 
 // A page of a segment marked present; where it is already, nothing changes: 20, 1, 19.

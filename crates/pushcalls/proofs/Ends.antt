@@ -1,7 +1,7 @@
 -- The ends of the calls: for each way out of the code, the rule's answer. Checks go in the rule's order, so each that fails is the number; where none fails, the plan hands
 -- on a volume that stands at a place, its pending commit, and a commit with room. A volume that is pushed or loses its pending commit keeps its identifier, so it goes into
 -- its own place and needs no room.
-use Rattle.std.proofs.Common.{◌≡◌, ℕ, ◌+◌, ◌*◌, ◌<◌, Bool, true, false, cond, ◌&&◌, eqb, List, ◌∷◌, length, sym, refl, ap, ◌∙◌, subst, ap₂, arith, eq-eqb, ne_eqb, eqb-true}
+use Rattle.std.proofs.Common.{◌≡◌, ℕ, ◌+◌, ◌*◌, ◌<◌, Bool, true, false, cond, ◌&&◌, eqb, List, ◌∷◌, length, sym, refl, ap, ◌∙◌, subst, ap₂, arith, eq-eqb, ne_eqb, eqb-true, Result, Ok, Some, None}
 use mathlib.Core.Option.{Option, none, some, map}
 use Rattle.octets.specs.Bytes.{part}
 use Rattle.octets.proofs.Places.{part_whole, length_part}
@@ -21,8 +21,6 @@ use Rattle.rules.proofs.Write.{form_lists}
 use Rattle.rules.proofs.Rooms.{fits_replace}
 use Rattle.table.specs.Records.{spot}
 use Rattle.table.specs.Table.{count_of, recs}
-use Rattle.table.specs.declared.Spot.{Spot}
-use Rattle.table.specs.declared.Spot.TheVariants as Spot
 use Rattle.table.proofs.Ends.{at_in}
 use Rattle.layout.specs.Codecs.{in_form}
 use Rattle.layout.specs.Records.{volume_bytes, commit_bytes}
@@ -34,10 +32,7 @@ use Rattle.rows.proofs.Checks.{row_in, row_form_lem, row_spelled}
 use Rattle.rows.proofs.Tables.{volumes, commits}
 use Rattle.volume.specs.Volumes.{volume_says, pending_says}
 use Rattle.basics.specs.declared.lsn.Lsn.{Lsn}
-use Rattle.volume.specs.declared.volume.MaybeLsn.TheVariants as MaybeLsn
-use Rattle.volume.specs.declared.volume.Sync.TheVariants as Sync
 use Rattle.volume.specs.declared.volume.PendingCommit.{PendingCommit}
-use Rattle.volume.specs.declared.volume.PendingCommit.TheVariants as PendingCommit
 use Rattle.volume.specs.declared.volume.Volume.{Volume as CodeVolume}
 use Rattle.volumebytes.specs.Laid.{volume_laid}
 use Rattle.volumebytes.proofs.RoundLaws.{says_laid}
@@ -204,8 +199,8 @@ module _ (vs : Table Volume) (g : Logs) (v : Volume) (c : Commit) where
 
 -- ---- the volume that was found at a place
 
-module _ (t : List ℕ) (vid : Id) (ok : volumes_ok t ≡ true) (o : Spot) (i : ℕ) (place : o ≡ spot 17 (0 ∷ vid) (recs 117 t)) (says : at_spot o (volumes_in t).rows ≡ get_volume (volumes_in t) vid)
-    (hit : o ≡ Spot.At i) (x : CodeVolume) (read : map volume_laid (nth i (volumes_in t).rows) ≡ some x) where
+module _ (t : List ℕ) (vid : Id) (ok : volumes_ok t ≡ true) (o : Result ℕ ℕ) (i : ℕ) (place : o ≡ spot 17 (0 ∷ vid) (recs 117 t)) (says : at_spot o (volumes_in t).rows ≡ get_volume (volumes_in t) vid)
+    (hit : o ≡ Ok i) (x : CodeVolume) (read : map volume_laid (nth i (volumes_in t).rows) ≡ some x) where
   pub is_found : get_volume (volumes_in t) vid ≡ some (volume_says x)
   is_found = found_here t vid ok o i says hit x read
 
@@ -240,7 +235,7 @@ module _ (t : List ℕ) (i : ℕ) where
 
   module _ (v : Volume) (st : Stands t i v) where
     pub inside : i < count_of t
-    inside = at_in 117 17 t (0 ∷ v.vid) i (Spot.At i) (sym st.place) refl
+    inside = at_in 117 17 t (0 ∷ v.vid) i (Ok i) (sym st.place) refl
 
     -- with the same identifier a volume needs no room
     pub same_fits : volumes_ok t ≡ true → (w : Volume) → w.vid ≡ v.vid → fits (store volume_key bytes w (volumes_in t)) ≡ true
@@ -254,7 +249,7 @@ module _ (t : List ℕ) (i : ℕ) where
 
     -- a volume in form with its identifier goes into its place
     pub ready_to_store : volumes_ok t ≡ true → (y : CodeVolume) (w : Volume) → volume_says y ≡ w → w.vid ≡ v.vid → volume_form w ≡ true
-        → ((volumes_ok t ≡ true) × (volume_form (volume_says y) ≡ true)) × (spot 17 (0 ∷ y.vid) (recs 117 t) ≡ Spot.At i)
+        → ((volumes_ok t ≡ true) × (volume_form (volume_says y) ≡ true)) × (spot 17 (0 ∷ y.vid) (recs 117 t) ≡ Ok i)
     ready_to_store ok y w e same form = (
       (ok, ap volume_form e ∙ form),
       ap (λ (z : List ℕ). spot 17 (0 ∷ z) (recs 117 t)) (ap (λ (a : Volume). a.vid) e ∙ same) ∙ st.place,
@@ -306,12 +301,12 @@ module _ (b : List ℕ) (is : IsCommit b) where
 -- ---- what is stored
 
 -- what the code's volume says after its push
-pub pushed_says : (v moved r : CodeVolume) (local commit : Lsn) → v.pending ≡ PendingCommit.At local commit
-    → moved ≡ record { vid = v.vid; local = v.local; remote = v.remote; sync = Sync.At (record { remote = commit; watermark = MaybeLsn.At local }); pending = v.pending; pending_hash = v.pending_hash }
-    → r ≡ record { vid = moved.vid; local = moved.local; remote = moved.remote; sync = moved.sync; pending = PendingCommit.Missing; pending_hash = zero_hash }
+pub pushed_says : (v moved r : CodeVolume) (own : PendingCommit) → v.pending ≡ Some own
+    → moved ≡ record { vid = v.vid; local = v.local; remote = v.remote; sync = Some (record { remote = own.commit; watermark = Some own.local }); pending = v.pending }
+    → r ≡ record { vid = moved.vid; local = moved.local; remote = moved.remote; sync = moved.sync; pending = None }
     → (p : Pending) → (volume_says v).pending ≡ some p → volume_says r ≡ pushed_volume (volume_says v) p
-pushed_says v moved r local commit is m e p q =
-    let s : record { local = local.0; commit = commit.0; hash = v.pending_hash } ≡ p = option_same (ap (λ (z : PendingCommit). pending_says z v.pending_hash) (sym is) ∙ q) in
+pushed_says v moved r own is m e p q =
+    let s : record { local = own.local.0; commit = own.commit.0; hash = own.hash } ≡ p = option_same (ap pending_says (sym is) ∙ q) in
     ap volume_says e ∙ ap (λ (z : CodeVolume). with_pending (volume_says z) none) m ∙ ap (λ (z : Pending). pushed_volume (volume_says v) z) s
 
 -- the bytes of a stored commit are those of a commit in form

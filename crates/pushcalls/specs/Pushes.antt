@@ -1,5 +1,5 @@
 -- The ends of a push on lent bytes: success with a commit that is given as bytes, and recover. What a plan decides, and what it hands on to the store.
-use Rattle.std.specs.Prelude.{◌≡◌, ℕ, ◌+◌, ◌*◌, ◌<◌, Bool, true, ◌&&◌, List, ◌∷◌, length, ◌==◌}
+use Rattle.std.specs.Prelude.{◌≡◌, ℕ, ◌+◌, ◌*◌, ◌<◌, Bool, true, ◌&&◌, List, ◌∷◌, length, ◌==◌, Ok}
 use Rattle.std.proofs.Math.Option.{none, some}
 use Rattle.octets.specs.Bytes.{part}
 use Rattle.basics.specs.Answers.{Answer, refused, done, ask, need, ◌>>=◌, ◌>>◌}
@@ -12,7 +12,6 @@ use Rattle.rules.specs.Write.{Logs, write, logs_fit}
 use Rattle.rules.specs.Push.{with_pending, is_hash, same_there, pushed_volume, push, success, recover_pending}
 use Rattle.table.specs.Records.{spot}
 use Rattle.table.specs.Table.{count_of, recs}
-use Rattle.table.specs.declared.Spot.TheVariants as Spot
 use Rattle.layout.specs.Codecs.{in_form}
 use Rattle.layout.specs.Records.{commit_bytes}
 use Rattle.layout.specs.Tables.{volumes_in, volumes_ok, commits_ok, checkpoints_ok, index_ok}
@@ -63,7 +62,7 @@ number_of (done r) = r.0
 pub record Stands (t : List ℕ) (i : ℕ) (v : Volume) : Type 0 where
   pub there : nth i (volumes_in t).rows ≡ some v
   pub found : get_volume (volumes_in t) v.vid ≡ some v
-  pub place : spot 17 (0 ∷ v.vid) (recs 117 t) ≡ Spot.At i
+  pub place : spot 17 (0 ∷ v.vid) (recs 117 t) ≡ Ok i
   pub form : volume_form v ≡ true
 
 -- the volume at place i has a pending commit, and there is room for the commit that b spells

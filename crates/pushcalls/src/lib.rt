@@ -19,14 +19,12 @@ ghost use Rattle.layout.specs.Lent.{lent, after};
 ghost use Rattle.writecalls.specs.Written.{IsCommit, commit_in, logs_in};
 ghost use Rattle.pushcalls.specs.Pushes.{push_ok, commit_asked, success_in, success_found, number_of, Stands, Ready, PushedAt, DroppedAt, Planned, Recovers, RecoversFound};
 
-use basics::commit_hash;
 use basics::commit_hash::CommitHash;
 use basics::id::VolumeId;
 use commitbytes::{commit_form, commit_lsns_ok, fields};
-use commits::{Place, find_commit, hash_is};
+use commits::{find_commit, hash_is};
 use layout::COMMIT;
-use table::Spot;
-use volume::volume::{MaybeLsn, PendingCommit, Sync, SyncPoint, Volume};
+use volume::volume::{SyncPoint, Volume};
 use volumes::{find_volume, store_volume, volume_at, volumes_formed};
 use writecalls::{logs_formed, write_room, write_stored};
 
@@ -93,7 +91,7 @@ fn same_there(commits: &[u8], c: &[u8], hash: CommitHash) -> bool
 {
     let log = fields::commit_log(c, 0);
     let lsn = fields::commit_lsn(c, 0);
-    let Place::At(i) = find_commit(commits, log, lsn.0) else {
+    let Some(i) = find_commit(commits, log, lsn.0) else {
         return true;
     };
     hash_is(commits, i, hash)
@@ -105,16 +103,15 @@ fn same_there(commits: &[u8], c: &[u8], hash: CommitHash) -> bool
 fn pushed(v: Volume) -> Volume
     ensures { (p : Pending) → (volume_says v).pending ≡ some p → volume_says result ≡ pushed_volume (volume_says v) p }
 {
-    let pending = v.pending;
-    let PendingCommit::At { local, commit } = pending else {
+    let Some(pending) = v.pending else {
         return v;
     };
     let point = SyncPoint {
-        remote: commit,
-        watermark: MaybeLsn::At(local),
+        remote: pending.commit,
+        watermark: Some(pending.local),
     };
-    let moved = v.with_sync(Sync::At(point));
-    moved.with_pending_commit(PendingCommit::Missing, commit_hash::zero())
+    let moved = v.with_sync(Some(point));
+    moved.with_pending_commit(None)
 }
 
 // The bytes of the commit at a place.
@@ -133,11 +130,7 @@ fn drop_stored(volumes: &mut [u8], i: usize)
     ensures { DroppedAt volumes.old i (λ vs. volumes.new ≡ laid_over volume_bytes vs volumes.old) }
 {
     let v = volume_at(volumes, i);
-    store_volume(
-        volumes,
-        i,
-        v.with_pending_commit(PendingCommit::Missing, commit_hash::zero()),
-    );
+    store_volume(volumes, i, v.with_pending_commit(None));
 }
 
 // The volume at a place pushed, and the commit written; there is room for it.
@@ -168,15 +161,13 @@ fn push_number(commits: &[u8], checkpoints: &[u8], index: &[u8], v: Volume, c: &
     requires commit { IsCommit c.now }
     ensures { (vs : Table RulesVolume) → ((w : RulesVolume) → w.vid ≡ v.vid → fits (store volume_key bytes w vs) ≡ true) → result ≡ code (success_found vs (logs_in commits.now checkpoints.now index.now) (volume_says v) (commit_in c.now)) }
 {
-    let pending = v.pending;
-    let hash = v.pending_hash;
-    let PendingCommit::At { local: _, commit } = pending else {
+    let Some(pending) = v.pending else {
         return 10;
     };
-    if !is_pending(c, commit.0, hash) {
+    if !is_pending(c, pending.commit.0, pending.hash) {
         return 14;
     }
-    if !same_there(commits, c, hash) {
+    if !same_there(commits, c, pending.hash) {
         return 15;
     }
     if !write_room(commits, checkpoints, index, c) {
@@ -201,7 +192,7 @@ fn success_plan(
     if number != 0 {
         return Plan::Left(number);
     }
-    let Spot::At(i) = find_volume(volumes, vid) else {
+    let Ok(i) = find_volume(volumes, vid) else {
         return Plan::Left(4);
     };
     let v = volume_at(volumes, i);
@@ -247,16 +238,13 @@ fn recover_found(commits: &[u8], checkpoints: &[u8], index: &[u8], at: usize, v:
     requires { (commits_ok commits.now ≡ true) × (checkpoints_ok checkpoints.now ≡ true) × (index_ok index.now ≡ true) }
     ensures { RecoversFound commits.now checkpoints.now index.now at (volume_says v) result }
 {
-    let pending = v.pending;
-    let hash = v.pending_hash;
-    let remote = v.remote;
-    let PendingCommit::At { local: _, commit } = pending else {
+    let Some(pending) = v.pending else {
         return Recovery::Left(0);
     };
-    let Place::At(j) = find_commit(commits, remote, commit.0) else {
+    let Some(j) = find_commit(commits, v.remote, pending.commit.0) else {
         return Recovery::Drop { at, number: 0 };
     };
-    if !hash_is(commits, j, hash) {
+    if !hash_is(commits, j, pending.hash) {
         return Recovery::Drop { at, number: 8 };
     }
     let row = commit_copy(commits, j);
@@ -277,7 +265,7 @@ fn recover_plan(
     requires { push_ok volumes.now commits.now checkpoints.now index.now ≡ true }
     ensures { Recovers volumes.now commits.now checkpoints.now index.now (recover_rule (volumes_in volumes.now) (logs_in commits.now checkpoints.now index.now) vid) result }
 {
-    let Spot::At(i) = find_volume(volumes, vid) else {
+    let Ok(i) = find_volume(volumes, vid) else {
         return Recovery::Left(4);
     };
     let v = volume_at(volumes, i);

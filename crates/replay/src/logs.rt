@@ -1,101 +1,65 @@
 // Calls 27 to 30: what changed in a log, and snapshots, 262 bytes each.
-use crate::record::{filled, replied};
+use crate::record::{read, replied};
 use boundary::logs;
-use octets::{load_id, load32, load64, same_id};
+use octets::{load_id, load32, load64};
 use std::io;
 use std::io::Read;
 
 // Call 27: the LSNs above a base up to a head.
-fn changes(file: &mut impl Read) -> io::Result<bool> {
-    let mut room = [0u8; 42];
-    if !filled(file, &mut room)? {
-        return Ok(false);
-    }
-    let record: &[u8] = &room;
-    let base = load64(record, 4);
-    let head = load64(record, 16);
+fn changes(record: [u8; 42]) -> bool {
+    let base = load64(&record, 4);
+    let head = load64(&record, 16);
     let mut start: u64 = 0;
     let mut end: u64 = 0;
     let r = logs::sigatuda_changes(
-        load32(record, 0),
+        load32(&record, 0),
         base,
-        load32(record, 12),
+        load32(&record, 12),
         head,
         &mut start,
         &mut end,
     );
-    if load64(record, 26) != start {
-        return Ok(false);
-    }
-    if load64(record, 34) != end {
-        return Ok(false);
-    }
-    Ok(replied(record, 24, r))
+    load64(&record, 26) == start && load64(&record, 34) == end && replied(&record, 24, r)
 }
 
 // Call 28: a snapshot of one range of a log.
-fn new(file: &mut impl Read) -> io::Result<bool> {
-    let mut room = [0u8; 300];
-    if !filled(file, &mut room)? {
-        return Ok(false);
-    }
-    let record: &[u8] = &room;
-    let log = load_id(record, 0);
-    let start = load64(record, 16);
-    let end = load64(record, 24);
-    let count = load32(record, 32);
+fn new(record: [u8; 300]) -> bool {
+    let log = load_id(&record, 0);
+    let start = load64(&record, 16);
+    let end = load64(&record, 24);
+    let count = load32(&record, 32);
     let mut out = [0u8; 262];
     let r = logs::sigatuda_snapshot_new(&log, start, end, count, &mut out);
-    if !octets::same(record, 38, &out, 0, 262) {
-        return Ok(false);
-    }
-    Ok(replied(record, 36, r))
+    record.ends_with(&out) && replied(&record, 36, r)
 }
 
 // Call 29: a snapshot with a range more.
-fn append(file: &mut impl Read) -> io::Result<bool> {
-    let mut room = [0u8; 558];
-    if !filled(file, &mut room)? {
-        return Ok(false);
-    }
-    let record: &[u8] = &room;
-    let log = load_id(record, 262);
-    let start = load64(record, 278);
-    let end = load64(record, 286);
+fn append(record: [u8; 558]) -> bool {
+    let snapshot = &record[..262];
+    let log = load_id(&record, 262);
+    let start = load64(&record, 278);
+    let end = load64(&record, 286);
     let mut out = [0u8; 262];
-    let r = logs::sigatuda_snapshot_append(&record[0..262], &log, start, end, &mut out);
-    if !octets::same(record, 296, &out, 0, 262) {
-        return Ok(false);
-    }
-    Ok(replied(record, 294, r))
+    let r = logs::sigatuda_snapshot_append(snapshot, &log, start, end, &mut out);
+    record.ends_with(&out) && replied(&record, 294, r)
 }
 
 // Call 30: the log and the LSN at a snapshot's head.
-fn head(file: &mut impl Read) -> io::Result<bool> {
-    let mut room = [0u8; 288];
-    if !filled(file, &mut room)? {
-        return Ok(false);
-    }
-    let record: &[u8] = &room;
+fn head(record: [u8; 288]) -> bool {
+    let snapshot = &record[..262];
     let mut log = [0u8; 16];
     let mut lsn: u64 = 0;
-    let r = logs::sigatuda_snapshot_head(&record[0..262], &mut log, &mut lsn);
-    if !same_id(load_id(record, 264), log) {
-        return Ok(false);
-    }
-    if load64(record, 280) != lsn {
-        return Ok(false);
-    }
-    Ok(replied(record, 262, r))
+    let r = logs::sigatuda_snapshot_head(snapshot, &mut log, &mut lsn);
+    load_id(&record, 264) == log && load64(&record, 280) == lsn && replied(&record, 262, r)
 }
 
 // Whether the next record, of a call on logs, is answered as it was; no where there is no such call.
 pub fn same(call: u32, file: &mut impl Read) -> io::Result<bool> {
     match call {
-        27 => changes(file),
-        28 => new(file),
-        29 => append(file),
-        30 => head(file),
+        27 => Ok(read(file)?.is_some_and(changes)),
+        28 => Ok(read(file)?.is_some_and(new)),
+        29 => Ok(read(file)?.is_some_and(append)),
+        30 => Ok(read(file)?.is_some_and(head)),
         _ => Ok(false),
     }
 }

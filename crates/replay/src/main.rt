@@ -4,7 +4,7 @@
 
 use std::io::{Read, Write};
 use std::{fs, io};
-use sums::Sums;
+use sums::{Kind, Sums};
 
 mod logs;
 mod numbers;
@@ -15,16 +15,12 @@ mod sums;
 
 // Whether the next record of a call is answered as it was.
 fn same(call: u32, file: &mut impl Read) -> io::Result<bool> {
-    if call < 10 {
-        return numbers::same(call, file);
+    match Kind::of(call) {
+        Kind::Numbers => numbers::same(call, file),
+        Kind::Sets => sets::same(call, file),
+        Kind::Segments => segments::same(call, file),
+        Kind::Logs => logs::same(call, file),
     }
-    if call < 22 {
-        return sets::same(call, file);
-    }
-    if call < 27 {
-        return segments::same(call, file);
-    }
-    logs::same(call, file)
 }
 
 // Says which record differs.
@@ -35,22 +31,18 @@ fn tell(to: &mut impl Write, number: u64, call: u32) -> io::Result<()> {
 // All records up to the end of the file; the first 20 that differ are named. A proved loop has to end, and nothing says that a file does: so the loop counts
 // records, up to more than there are.
 fn all(file: &mut impl Read, to: &mut impl Write) -> io::Result<Sums> {
-    let mut sums = sums::none();
+    let mut sums = Sums::default();
     let mut named: u64 = 0;
     for number in 1..=1000000u64 {
-        let call = record::call(file)?;
-        if call == 0 {
+        let Some(call) = record::call(file)? else {
             return Ok(sums);
-        }
+        };
         let as_it_was = same(call, file)?;
-        if !as_it_was {
-            if named < 20 {
-                tell(to, number, call)?;
-                named += 1;
-            }
+        if !as_it_was && named < 20 {
+            tell(to, number, call)?;
+            named += 1;
         }
-        let more = sums::counted(sums, call, as_it_was);
-        sums = more;
+        sums.count(Kind::of(call), as_it_was);
     }
     Ok(sums)
 }

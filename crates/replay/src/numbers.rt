@@ -1,5 +1,5 @@
 // Calls 1 to 9: LSNs, pages and counts.
-use crate::record::{filled, replied};
+use crate::record::{read, replied};
 use arguments::Reply;
 use boundary::numbers;
 use octets::{load32, load64};
@@ -17,18 +17,10 @@ fn on_lsn(call: u32, n: u64, out: &mut u64) -> Reply {
 }
 
 // Calls 1 to 4.
-fn lsns(call: u32, file: &mut impl Read) -> io::Result<bool> {
-    let mut room = [0u8; 18];
-    if !filled(file, &mut room)? {
-        return Ok(false);
-    }
-    let record: &[u8] = &room;
+fn lsns(call: u32, record: [u8; 18]) -> bool {
     let mut out: u64 = 0;
-    let r = on_lsn(call, load64(record, 0), &mut out);
-    if load64(record, 10) != out {
-        return Ok(false);
-    }
-    Ok(replied(record, 8, r))
+    let r = on_lsn(call, load64(&record, 0), &mut out);
+    load64(&record, 10) == out && replied(&record, 8, r)
 }
 
 // One of the calls on a page or a count.
@@ -43,24 +35,16 @@ fn on_page(call: u32, n: u32, out: &mut u32) -> Reply {
 }
 
 // Calls 5 to 9.
-fn pages(call: u32, file: &mut impl Read) -> io::Result<bool> {
-    let mut room = [0u8; 10];
-    if !filled(file, &mut room)? {
-        return Ok(false);
-    }
-    let record: &[u8] = &room;
+fn pages(call: u32, record: [u8; 10]) -> bool {
     let mut out: u32 = 0;
-    let r = on_page(call, load32(record, 0), &mut out);
-    if load32(record, 6) != out {
-        return Ok(false);
-    }
-    Ok(replied(record, 4, r))
+    let r = on_page(call, load32(&record, 0), &mut out);
+    load32(&record, 6) == out && replied(&record, 4, r)
 }
 
 // Whether the next record, of a call on numbers, is answered as it was.
 pub fn same(call: u32, file: &mut impl Read) -> io::Result<bool> {
-    if call < 5 {
-        return lsns(call, file);
+    match call {
+        1..=4 => Ok(read(file)?.is_some_and(|record| lsns(call, record))),
+        _ => Ok(read(file)?.is_some_and(|record| pages(call, record))),
     }
-    pages(call, file)
 }

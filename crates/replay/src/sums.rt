@@ -4,8 +4,29 @@ use plainset::tally::Tally;
 use std::io;
 use std::io::Write;
 
-// A tally for each kind.
+// What a call is about.
 #[derive(Clone, Copy)]
+pub enum Kind {
+    Numbers,
+    Sets,
+    Segments,
+    Logs,
+}
+
+impl Kind {
+    // The kind of a call.
+    pub fn of(call: u32) -> Kind {
+        match call {
+            0..=9 => Kind::Numbers,
+            10..=21 => Kind::Sets,
+            22..=26 => Kind::Segments,
+            _ => Kind::Logs,
+        }
+    }
+}
+
+// A tally for each kind.
+#[derive(Clone, Copy, Default)]
 pub struct Sums {
     pub numbers: Tally,
     pub sets: Tally,
@@ -13,34 +34,17 @@ pub struct Sums {
     pub logs: Tally,
 }
 
-// No record yet.
-pub fn none() -> Sums {
-    Sums {
-        numbers: tally::none(),
-        sets: tally::none(),
-        segments: tally::none(),
-        logs: tally::none(),
+impl Sums {
+    // One record more: the kind of its call, and whether it was answered as it was.
+    pub fn count(&mut self, kind: Kind, same: bool) {
+        let tally = match kind {
+            Kind::Numbers => &mut self.numbers,
+            Kind::Sets => &mut self.sets,
+            Kind::Segments => &mut self.segments,
+            Kind::Logs => &mut self.logs,
+        };
+        tally.same(same, true);
     }
-}
-
-// One record more: its call, and whether it was answered as it was.
-pub fn counted(s: Sums, call: u32, same: bool) -> Sums {
-    let got = if same { 1 } else { 0 };
-    let mut sums = s;
-    if call < 10 {
-        sums.numbers = tally::same(sums.numbers, got, 1);
-        return sums;
-    }
-    if call < 22 {
-        sums.sets = tally::same(sums.sets, got, 1);
-        return sums;
-    }
-    if call < 27 {
-        sums.segments = tally::same(sums.segments, got, 1);
-        return sums;
-    }
-    sums.logs = tally::same(sums.logs, got, 1);
-    sums
 }
 
 // Writes a line for each kind.

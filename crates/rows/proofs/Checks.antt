@@ -1,6 +1,6 @@
 -- The check of a table by code: that its keys rise, then row by row that each is in form. The invariant of the loop says that the whole test is that of the
 -- rows from i on; a row that is not in form, or the end of the rows, ends it. And what a row of a checked table is: the bytes of a record in form.
-use Rattle.std.proofs.Common.{◌≡◌, ℕ, zero, suc, ◌+◌, ◌*◌, ◌<◌, ◌≤◌, Bool, true, false, ◌&&◌, List, [], ◌∷◌, length, get_or, drop, sym, ap, ◌∙◌, add-one, arith, drop_of_length-le}
+use Rattle.std.proofs.Common.{◌≡◌, ℕ, zero, suc, ◌+◌, ◌*◌, ◌<◌, ◌≤◌, Bool, true, false, ◌&&◌, List, [], ◌∷◌, length, get_or, drop, sym, ap, ◌∙◌, ap₂, add-one, arith, drop_of_length-le}
 use Prim.Native.Nat.{Ordering}
 use Rattle.octets.specs.Bytes.{part}
 use Rattle.rules.specs.Lists.{all}
@@ -8,45 +8,60 @@ use Rattle.rules.proofs.TableLaws.{and_fst, and_snd}
 use Rattle.rules.proofs.Loops.{all_step}
 use Rattle.table.specs.Table.{count_of, recs, well_ordered}
 use Rattle.table.proofs.Rows.{rows_lt, length_recs, recs_at}
-use Rattle.table.proofs.Checks.{well_room}
+use Rattle.table.proofs.Checks.{well_two, well_room}
 use Rattle.layout.specs.Codecs.{Codec, in_form}
 use Rattle.layout.specs.Tables.{formed_in}
 use Rattle.layout.proofs.HoldLaws.{in_form_lem}
-use Rattle.rows.proofs.Rows.{Layout, formed_tests, formed_well, formed_tested}
+use Rattle.rows.proofs.Rows.{Layout, formed_well, formed_tested}
 use Rattle.rows.proofs.Finds.{row_at}
 
 -- ---- the loop
 
-module _ {R K : Type 0} {c : Codec R} {s k : ℕ} {form : R → Bool} {key : R → K} {order : K → K → Ordering} (L : Layout c s k form key order) (t : List ℕ) where
-  -- the whole test is that of the rows from i on
-  abbrev pub Left : ℕ → Type 0
-  Left i = formed_in c k form t ≡ all (in_form c form) (drop i (recs s t))
+-- the whole test is that of the rows from i on: ok is asked of a table whose records are S bytes, and f of each record
+abbrev pub Left : (List ℕ → Bool) → (List ℕ → Bool) → ℕ → List ℕ → ℕ → Type 0
+Left f ok S t i = ok t ≡ all f (drop i (recs S t))
 
-  pub check_no : (b : Bool) → b ≡ well_ordered s k t → b ≡ false → false ≡ formed_in c k form t
-  check_no b e f = sym (formed_tests L t ∙ rw (sym e ∙ f))
+module _ (f ok : List ℕ → Bool) (S N : ℕ) (tests : (t : List ℕ) → ok t ≡ (well_ordered S N t && all f (recs S t))) (t : List ℕ) where
+  -- the code's numbers of bytes, and what it found of the order
+  module _ (s k : ℕ) (es : s ≡ S) (ek : k ≡ N) (b : Bool) (e : b ≡ well_ordered s k t) where
+    well_is : well_ordered S N t ≡ b
+    well_is = ap₂ (λ (x y : ℕ). well_ordered x y t) (sym es) (sym ek) ∙ sym e
 
-  pub check_start : (b : Bool) → b ≡ well_ordered s k t → b ≡ true → Left 0
-  check_start b e f = formed_tests L t ∙ rw (sym e ∙ f)
+    asked : ok t ≡ (b && all f (recs S t))
+    asked = tests t ∙ ap (λ (p : Bool). p && all f (recs S t)) well_is
 
-  module _ (i : ℕ) (l : i < count_of t) (b : Bool) (e : b ≡ in_form c form (part (2 + i * s) s t)) (h : Left i) where
-    step : all (in_form c form) (drop i (recs s t)) ≡ (b && all (in_form c form) (drop (suc i) (recs s t)))
+    pub check_no : b ≡ false → false ≡ ok t
+    check_no h = sym (asked ∙ rw h)
+
+    pub check_start : b ≡ true → Left f ok S t 0
+    check_start h = asked ∙ rw h
+
+    pub check_two : b ≡ true → 2 ≤ length t
+    check_two h = well_two S N t (well_is ∙ h)
+
+    -- row i lies within the bytes
+    pub check_room : b ≡ true → 0 < S → (w : ℕ) → w ≡ S → (i : ℕ) → i < count_of t → 2 + i * w + S ≤ length t
+    check_room h p w ew i l = omega (arith, rows_lt S l, well_room S N t p (well_is ∙ h), ap (λ (m : ℕ). i * m) ew)
+
+  module _ (s : ℕ) (es : s ≡ S) (i : ℕ) (l : i < count_of t) (b : Bool) (e : b ≡ f (part (2 + i * s) S t)) (h : Left f ok S t i) where
+    step : all f (drop i (recs S t)) ≡ (b && all f (drop (suc i) (recs S t)))
     step =
-        all_step (in_form c form) (recs s t) [] i (omega (arith, length_recs s t))
-        ∙ ap (λ (p : Bool). p && all (in_form c form) (drop (suc i) (recs s t))) (ap (in_form c form) (recs_at s t i l) ∙ sym e)
+        all_step f (recs S t) [] i (omega (arith, length_recs S t))
+        ∙ ap (λ (p : Bool). p && all f (drop (suc i) (recs S t))) (ap f (recs_at S t i l ∙ ap (λ (m : ℕ). part (2 + i * m) S t) (sym es)) ∙ sym e)
 
-    pub check_next : b ≡ true → Left (i + 1)
-    check_next f = h ∙ step ∙ rw (f, add-one)
+    pub check_next : b ≡ true → Left f ok S t (i + 1)
+    check_next g = h ∙ step ∙ rw (g, add-one)
 
-    pub check_stop : b ≡ false → false ≡ formed_in c k form t
-    check_stop f = sym (h ∙ step ∙ rw f)
+    pub check_stop : b ≡ false → false ≡ ok t
+    check_stop g = sym (h ∙ step ∙ rw g)
 
-  pub check_end : (i : ℕ) → count_of t ≤ i → Left i → true ≡ formed_in c k form t
+  pub check_end : (i : ℕ) → count_of t ≤ i → Left f ok S t i → true ≡ ok t
   unfolding all
   check_end i l h =
-      let n : length (recs s t) ≤ i = omega (arith, length_recs s t) in
-      sym (h ∙ ap (all (in_form c form)) (drop_of_length-le (recs s t) n))
+      let n : length (recs S t) ≤ i = omega (arith, length_recs S t) in
+      sym (h ∙ ap (all f) (drop_of_length-le (recs S t) n))
 
--- it lies within the bytes
+-- a row lies within the bytes
 pub row_room : (s k i : ℕ) (t : List ℕ) → 0 < s → well_ordered s k t ≡ true → i < count_of t → 2 + i * s + s ≤ length t
 row_room s k i t p w l = omega (arith, rows_lt s l, well_room s k t p w)
 

@@ -1,15 +1,14 @@
 -- What a search in a formed table finds, in the rules' words. Key bytes name a key of the rules where they stand to each record's bytes as it does to that
 -- record's key; then the spot of the bytes is the place of the key. The record of a key is the one at the spot; the first record that passes a test
 -- that holds from a key on is the one at the key's place; the run between two keys is the records whose keys lie between. Each by induction on the records.
-use Rattle.std.proofs.Common.{◌≡◌, ℕ, zero, suc, ◌+◌, ◌-◌, ◌*◌, ◌<◌, ◌≤◌, Bool, true, cond, not, ◌&&◌, List, [], ◌∷◌, map, length, get_or, take, drop, sym, refl, ap, ◌∙◌, ap₂, add-one, arith, drop-cons}
+use Rattle.std.proofs.Common.{◌≡◌, ℕ, zero, suc, ◌+◌, ◌-◌, ◌*◌, ◌<◌, ◌≤◌, Bool, true, cond, not, ◌&&◌, List, [], ◌∷◌, map, length, get_or, take, drop, sym, refl, ap, ◌∙◌, ap₂, add-one, arith, drop-cons, Result, Ok, Err}
 use Prim.Native.Nat.{Ordering}
 use mathlib.Core.Option
 use mathlib.Core.Option.{Option, none, some}
 use lib.Dec.{compare_is_eq, is_le}
 use Rattle.octets.specs.Bytes.{part}
 use Rattle.octets.specs.Order.{turned, ordering, is_less}
-use Rattle.octets.specs.declared.Order.{Order}
-use Rattle.octets.specs.declared.Order.TheVariants.{Less, Equal, Greater}
+use Rattle.std.proofs.Common.{Ordering as Order, Less, Equal, Greater}
 use Rattle.octets.proofs.Orders.{lex_turned}
 use Rattle.basics.specs.Orders.{is_lt}
 use Rattle.rules.specs.Lists.{first, those, all}
@@ -18,8 +17,6 @@ use Rattle.rules.proofs.TableLaws.{cases, options, clash, lt_of, and_fst, and_sn
 use Rattle.table.specs.Records.{cmp, spot_by, spot, place, look_by, look}
 use Rattle.table.specs.Table.{count_of, recs}
 use Rattle.table.specs.Run.{in_run, run, RunOf}
-use Rattle.table.specs.declared.Spot.{Spot}
-use Rattle.table.specs.declared.Spot.TheVariants.{At, Gap}
 use Rattle.table.proofs.Rows.{length_recs, recs_at}
 use Rattle.table.proofs.Spots.{at_lt, look_at, look_gap}
 use Rattle.table.proofs.Checks.{well_rises}
@@ -142,11 +139,11 @@ module _ {R K : Type 0} {c : Codec R} {s k : ℕ} {form : R → Bool} {key : R �
   get_step Equal r g q e h = ap {B = Option R} some (sym e)
   get_step Greater r g q e h = h
 
-  from_step : (o : Order) (q : Spot) (r : R) (l : List R) (g : Option R) → g ≡ nth (place q) l → cond (is_le (ordering o)) (some r) g ≡ nth (place (spot_by o q)) (r ∷ l)
+  from_step : (o : Order) (q : Result ℕ ℕ) (r : R) (l : List R) (g : Option R) → g ≡ nth (place q) l → cond (is_le (ordering o)) (some r) g ≡ nth (place (spot_by o q)) (r ∷ l)
   from_step Less q r l g e = refl
   from_step Equal q r l g e = refl
-  from_step Greater (At i) r l g e = e
-  from_step Greater (Gap i) r l g e = e
+  from_step Greater (Ok i) r l g e = e
+  from_step Greater (Err i) r l g e = e
 
   module _ (kb : List ℕ) (x : K) (n : Names kb x) where
     get_look : (l : List R) → all form l ≡ true → get key order x l ≡ Option.map c.read (look k kb (map c.spell l))
@@ -170,13 +167,13 @@ module _ {R K : Type 0} {c : Codec R} {s k : ℕ} {form : R → Bool} {key : R �
       get_rows = get_look (table_in c t).rows (formed_forms L t e) ∙ ap (λ (rs : List (List ℕ)). Option.map c.read (look k kb rs)) (sym (rows_are L t e))
 
       -- the record of a key is the one at the spot of its bytes
-      pub get_at : (i : ℕ) → spot k kb (recs s t) ≡ At i → get key order x (table_in c t).rows ≡ some (row_at c s t i)
+      pub get_at : (i : ℕ) → spot k kb (recs s t) ≡ Ok i → get key order x (table_in c t).rows ≡ some (row_at c s t i)
       get_at i p =
           let l : i < count_of t = omega (arith, at_lt k kb (recs s t) i p, length_recs s t) in
           get_rows ∙ ap (Option.map c.read) (look_at k kb (recs s t) i p) ∙ ap some (row_is t i l)
 
       -- and where the bytes stand in a gap there is none
-      pub get_gap : (i : ℕ) → spot k kb (recs s t) ≡ Gap i → get key order x (table_in c t).rows ≡ none
+      pub get_gap : (i : ℕ) → spot k kb (recs s t) ≡ Err i → get key order x (table_in c t).rows ≡ none
       get_gap i p = get_rows ∙ ap (Option.map c.read) (look_gap k kb (recs s t) i (well_rises s k t (formed_well L t e)) p)
 
       -- the first record at or after a key stands at the place of its bytes

@@ -6,8 +6,7 @@ use Prim.Native.Nat.{Ordering}
 use lib.ListN.{length-replicate}
 use Rattle.octets.specs.Bytes.{bytes_of, down, part}
 use Rattle.octets.specs.Order.{order, then_by, lex, turned, ordering}
-use Rattle.octets.specs.declared.Order.{Order}
-use Rattle.octets.specs.declared.Order.TheVariants.{Less, Equal, Greater}
+use Rattle.std.proofs.Common.{Ordering as Order, Less, Equal, Greater}
 use Rattle.octets.proofs.Numbers.{length_bytes_of, length_down}
 use Rattle.octets.proofs.Orders as O
 use Rattle.octets.proofs.Places.{part_front, part_whole}

@@ -4,8 +4,7 @@ use Rattle.std.proofs.Common.{◌≡◌, ℕ, ◌+◌, ◌<◌, ◌≤◌, Bool,
 use Prim.Native.Nat.{Ordering}
 use lib.Dec.{compare_is_eq}
 use Rattle.octets.specs.Order.{ordering}
-use Rattle.octets.specs.declared.Order.{Order}
-use Rattle.octets.specs.declared.Order.TheVariants.{Less, Equal, Greater}
+use Rattle.std.proofs.Common.{Ordering as Order, Less, Equal, Greater}
 use Rattle.rules.specs.Lists.{any, all}
 use Rattle.rules.specs.Tables.{capacity, fits, store_all}
 use Rattle.rules.specs.Room.{held, lacks, news, has_room}

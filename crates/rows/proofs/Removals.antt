@@ -1,6 +1,6 @@
 -- What a removal leaves, in the rules' words. The rows from the first place of a run up to its last go: those before it are below the first key, those
 -- after it above the second, so the others are the records whose keys do not lie between. One record is the run from its key to itself.
-use Rattle.std.proofs.Common.{◌≡◌, ℕ, suc, ◌+◌, ◌-◌, ◌<◌, ◌≤◌, Bool, true, false, not, ◌&&◌, List, [], ◌∷◌, ◌++◌, map, length, get_or, take, drop, sym, refl, ap, ◌∙◌, ap₂, suc-le-suc, arith, length-drop, take-append-drop, length-take, get_or-drop, get_or-take, drop-drop}
+use Rattle.std.proofs.Common.{◌≡◌, ℕ, suc, ◌+◌, ◌-◌, ◌<◌, ◌≤◌, Bool, true, false, not, ◌&&◌, List, [], ◌∷◌, ◌++◌, map, length, get_or, take, drop, sym, refl, ap, ◌∙◌, ap₂, suc-le-suc, arith, length-drop, take-append-drop, length-take, get_or-drop, get_or-take, drop-drop, Ok, Err}
 use Prim.Native.Nat.{Ordering}
 use lib.Dec.{compare_is_eq, is_le}
 use Rattle.basics.specs.Orders.{is_lt}
@@ -10,7 +10,6 @@ use Rattle.rules.proofs.TableLaws.{cases, those_append, formed_remove}
 use Rattle.table.specs.Records.{rises, spot, place, past, removed}
 use Rattle.table.specs.Table.{count_of, recs, laid}
 use Rattle.table.specs.Run.{in_run, RunOf}
-use Rattle.table.specs.declared.Spot.TheVariants.{At, Gap}
 use Rattle.table.proofs.Rows.{length_recs}
 use Rattle.table.proofs.Spots.{at_lt, gap_le}
 use Rattle.table.proofs.Checks.{well_rises}
@@ -104,14 +103,14 @@ module _ {R K : Type 0} {c : Codec R} {s k : ℕ} {form : R → Bool} {key : R �
 
   module _ (kb : List ℕ) (x : K) (n : Names L kb x) where
     -- the bytes after it went
-    pub remove_laid : (i : ℕ) → spot k kb (recs s t) ≡ At i → laid (removed i (recs s t)) t ≡ laid_over c (remove (λ r. compare_is_eq (order x (key r))) (table_in c t)) t
+    pub remove_laid : (i : ℕ) → spot k kb (recs s t) ≡ Ok i → laid (removed i (recs s t)) t ≡ laid_over c (remove (λ r. compare_is_eq (order x (key r))) (table_in c t)) t
     remove_laid i p =
         let l : i < count_of t = omega (arith, at_lt k kb (recs s t) i p, length_recs s t) in
         let h : RunOf s k kb kb t i (suc i) = record { begins = sym (ap place p); ends = omega (arith, ap past p); inside = (omega arith, l) } in
         run_laid kb kb x x n n i (suc i) h (omega arith) ∙ ap (λ (f : R → Bool). laid_over c (remove f (table_in c t)) t) (within_one key order x)
 
     -- where there is none, nothing goes
-    pub remove_gap : (i : ℕ) → spot k kb (recs s t) ≡ Gap i → remove (λ r. compare_is_eq (order x (key r))) (table_in c t) ≡ table_in c t
+    pub remove_gap : (i : ℕ) → spot k kb (recs s t) ≡ Err i → remove (λ r. compare_is_eq (order x (key r))) (table_in c t) ≡ table_in c t
     remove_gap i p =
         let l : i ≤ count_of t = omega (arith, gap_le k kb (recs s t) i p, length_recs s t) in
         let h : RunOf s k kb kb t i i = record { begins = sym (ap place p); ends = omega (arith, ap past p); inside = (l, l) } in

@@ -7,8 +7,7 @@ use mathlib.Core.Bool.{and-false}
 use lib.ListN.{length-map}
 use Rattle.octets.specs.Bytes.{bytes_of, part, AreBytes}
 use Rattle.octets.specs.Order.{ordering, is_less}
-use Rattle.octets.specs.declared.Order.{Order}
-use Rattle.octets.specs.declared.Order.TheVariants.{Less, Equal, Greater}
+use Rattle.std.proofs.Common.{Ordering as Order, Less, Equal, Greater}
 use Rattle.octets.proofs.Places as P
 use Rattle.basics.specs.Orders.{is_lt}
 use Rattle.basics.proofs.OrderLaws.{Lawful}

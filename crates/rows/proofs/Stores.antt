@@ -1,10 +1,9 @@
 -- What a store leaves and whether there is room for it, in the rules' words. A put goes by how the record and each row stand, which is how their keys do, so
 -- the rows after it are the bytes of the records after it; their number is the rules', and so is what fits.
-use Rattle.std.proofs.Common.{◌≡◌, ℕ, ◌+◌, Bool, true, List, [], ◌∷◌, map, set, sym, refl, ap, ◌∙◌, ap₂}
+use Rattle.std.proofs.Common.{◌≡◌, ℕ, ◌+◌, Bool, true, List, [], ◌∷◌, map, set, sym, refl, ap, ◌∙◌, ap₂, Ok, Err}
 use Prim.Native.Nat.{Ordering}
 use Rattle.octets.specs.Order.{ordering}
-use Rattle.octets.specs.declared.Order.{Order}
-use Rattle.octets.specs.declared.Order.TheVariants.{Less, Equal, Greater}
+use Rattle.std.proofs.Common.{Ordering as Order, Less, Equal, Greater}
 use Rattle.basics.proofs.OrderLaws.{ordering_same}
 use Rattle.rules.specs.Lists.{all}
 use Rattle.rules.specs.Tables.{fits, placed, put, put_all, store, store_all}
@@ -13,7 +12,6 @@ use Rattle.table.specs.Records.{cmp, spot_by, spot, put_by}
 use Rattle.table.specs.Records as T
 use Rattle.table.specs.Table.{count_of, recs, laid, holds}
 use Rattle.table.specs.Table as B
-use Rattle.table.specs.declared.Spot.TheVariants.{At, Gap}
 use Rattle.table.proofs.Spots.{put_at}
 use Rattle.table.proofs.Ends.{room_at, room_gap}
 use Rattle.batch.specs.Batch as Many
@@ -86,14 +84,14 @@ module _ {R K : Type 0} {c : Codec R} {s k : ℕ} {form : R → Bool} {key : R �
             ∙ ap (spot k kb) (sym (rows_are L t e))
 
         -- the record there gives way to it, which needs no room
-        pub over_laid : spot k kb (recs s t) ≡ At i → laid (set (recs s t) i (c.spell r)) t ≡ laid_over c (store key order r (table_in c t)) t
+        pub over_laid : spot k kb (recs s t) ≡ Ok i → laid (set (recs s t) i (c.spell r)) t ≡ laid_over c (store key order r (table_in c t)) t
         over_laid p = ap (λ (rs : List (List ℕ)). laid rs t) (sym (put_at k (c.spell r) (recs s t) i (own_spot ∙ p))) ∙ put_laid
 
-        pub over_fits : spot k kb (recs s t) ≡ At i → fits (store key order r (table_in c t)) ≡ true
+        pub over_fits : spot k kb (recs s t) ≡ Ok i → fits (store key order r (table_in c t)) ≡ true
         over_fits p = sym put_fits ∙ sym (room_at s k t (c.spell r) i (spot k (c.spell r) (recs s t)) refl (own_spot ∙ p) (formed_well L t e))
 
         -- or it goes in before that one, which needs room for one more
-        pub insert_fits : spot k kb (recs s t) ≡ Gap i → holds s (count_of t + 1) t ≡ fits (store key order r (table_in c t))
+        pub insert_fits : spot k kb (recs s t) ≡ Err i → holds s (count_of t + 1) t ≡ fits (store key order r (table_in c t))
         insert_fits p = room_gap s k t (c.spell r) i (spot k (c.spell r) (recs s t)) refl (own_spot ∙ p) (holds s (count_of t + 1) t) refl ∙ put_fits
 
     -- ---- many records stored

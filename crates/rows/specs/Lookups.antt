@@ -1,5 +1,5 @@
 -- The first record at or after a key, and the records from a key to another: what a search in key order finds.
-use Rattle.std.specs.Prelude.{◌≡◌, ℕ, zero, suc, ◌-◌, Bool, cond, not, ◌&&◌, List, [], ◌∷◌, take, drop}
+use Rattle.std.specs.Prelude.{◌≡◌, ℕ, zero, suc, ◌-◌, Bool, cond, not, ◌&&◌, List, [], ◌∷◌, take, drop, Result, Ok, Err}
 use Prim.Native.Nat.{Ordering}
 use Rattle.std.proofs.Math.Option.{Option, none, some}
 use Rattle.std.proofs.Math.Dec.{is_le}
@@ -8,8 +8,6 @@ use Rattle.rules.specs.Lists.{first}
 use Rattle.rules.specs.Tables.{get}
 use Rattle.table.specs.Records.{spot}
 use Rattle.table.specs.Table.{recs}
-use Rattle.table.specs.declared.Spot.{Spot}
-use Rattle.table.specs.declared.Spot.TheVariants.{At, Gap}
 use Rattle.layout.specs.Codecs.{Codec}
 use Rattle.layout.specs.Tables.{table_in}
 
@@ -38,11 +36,11 @@ module _ {R K : Type 0} (key : R → K) (order : K → K → Ordering) where
   within x y r = is_le (order x (key r)) && not (is_lt (order y (key r)))
 
 -- the record at a spot; in a gap there is none
-abbrev pub at_spot : {A : Type 0} → Spot → List A → Option A
-at_spot (At i) l = nth i l
-at_spot (Gap i) l = none
+abbrev pub at_spot : {A : Type 0} → Result ℕ ℕ → List A → Option A
+at_spot (Ok i) l = nth i l
+at_spot (Err i) l = none
 
 -- the spot o of a key x, whose bytes are kb, in bytes t with rows of s bytes: the place of the key's bytes, and the record there is the one that the rules find
-pub record FoundAt {R K : Type 0} (key : R → K) (order : K → K → Ordering) (c : Codec R) (s k : ℕ) (kb : List ℕ) (x : K) (t : List ℕ) (o : Spot) : Type 0 where
+pub record FoundAt {R K : Type 0} (key : R → K) (order : K → K → Ordering) (c : Codec R) (s k : ℕ) (kb : List ℕ) (x : K) (t : List ℕ) (o : Result ℕ ℕ) : Type 0 where
   pub place : o ≡ spot k kb (recs s t)
   pub says : at_spot o (table_in c t).rows ≡ get key order x (table_in c t).rows

@@ -3,8 +3,7 @@ use Rattle.std.proofs.Common.{◌≡◌, ℕ, ◌<◌, ◌≤◌, Bool, true, fa
 use Prim.Native.Nat.{Ordering}
 use mathlib.Core.Option.{Option, none, some}
 use lib.Dec.{compare_is_eq}
-use Rattle.octets.specs.declared.Order.{Order}
-use Rattle.octets.specs.declared.Order.TheVariants.{Less, Equal, Greater}
+use Rattle.std.proofs.Common.{Ordering as Order, Less, Equal, Greater}
 use Rattle.octets.specs.Order.{lex, ordering, is_equal}
 use Rattle.basics.specs.Orders.{bytes, log_lsn, log_page_lsn}
 use Rattle.rules.specs.Records.{Id, Commit, Entry, Range, LogLsn, Volume}

@@ -16,7 +16,7 @@ ghost use Rattle.savecalls.specs.Saving.{set_formed, save_ok, arguments_in, save
 
 use arguments::snapshots::{snapshot_arg, snapshot_ok};
 use basics::id::{SegmentId, VolumeId};
-use basics::lsn::{Lsn, LsnAnswer};
+use basics::lsn::Lsn;
 use basics::page_count::PageCount;
 use entries::presence_formed;
 use layout::{SET, SNAPSHOT};
@@ -24,7 +24,6 @@ use pageset::PageSet;
 use saves::{in_use, next_lsn, put_pages, room_for_pages, write_saved};
 use setbytes::{set_form, set_read};
 use snapshotbytes::snapshot_write;
-use table::Spot;
 use viewcalls::{is_latest, snapshot_of};
 use volume::snapshot::Snapshot;
 use volume::volume::Volume;
@@ -121,7 +120,7 @@ fn save_plan(
     requires { (volumes_ok volumes.now ≡ true) × (commits_ok commits.now ≡ true) × (presence_ok presence.now ≡ true) × (s.len ≤ 8) }
     ensures { plan_says result ≡ planned (volumes_in volumes.now) (commits_in commits.now) (presence_in presence.now) vid (snapshot_says s) sid }
 {
-    let Spot::At(i) = find_volume(volumes, vid) else {
+    let Ok(i) = find_volume(volumes, vid) else {
         return no_plan(4);
     };
     let volume = volume_at(volumes, i);
@@ -129,7 +128,7 @@ fn save_plan(
     if !is_latest(commits, volume, s) {
         return no_plan(7);
     }
-    let LsnAnswer::At(lsn) = next_lsn(commits, local) else {
+    let Ok(lsn) = next_lsn(commits, local) else {
         return no_plan(18);
     };
     if in_use(commits, presence, sid) {

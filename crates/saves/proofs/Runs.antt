@@ -1,14 +1,13 @@
 -- Where the pages of a save go. No present page is of the segment, so every record stands below all of its pages or above all of them: in the order of keys the new
 -- records are one run, at the place of the segment's last page, and since pages go down in that order the last page comes first. So the records after are those
 -- before the place, the pages from the last down, and those behind; their number is those held plus the number of pages.
-use Rattle.std.proofs.Common.{◌≡◌, ℕ, ◌+◌, ◌*◌, ◌^◌, ◌<◌, ◌≤◌, Bool, true, false, List, [], ◌∷◌, ◌++◌, map, reverse, length, take, drop, sym, refl, ap, ◌∙◌, ap₂, append_assoc, arith, length-append, take-append-drop}
+use Rattle.std.proofs.Common.{◌≡◌, ℕ, ◌+◌, ◌*◌, ◌^◌, ◌<◌, ◌≤◌, Bool, true, false, List, [], ◌∷◌, ◌++◌, map, reverse, length, take, drop, sym, refl, ap, ◌∙◌, ap₂, append_assoc, arith, length-append, take-append-drop, Result, Ok, Err}
 use Prim.Native.Nat.{Ordering}
 use mathlib.Core.List.{reverse-cons}
 use lib.Dec.{compare_is_eq}
 use lib.ListN.{length-map, length-reverse}
 use Rattle.octets.specs.Order.{ordering}
-use Rattle.octets.specs.declared.Order.{Order}
-use Rattle.octets.specs.declared.Order.TheVariants.{Less, Equal, Greater}
+use Rattle.std.proofs.Common.{Ordering as Order, Less, Equal, Greater}
 use Rattle.basics.specs.Orders.{next, bytes, is_lt, down, sid_page}
 use Rattle.basics.proofs.OrderLaws.{up_lt, bytes_lawful, sid_page_lawful}
 use Rattle.rules.specs.Lists.{all, any}
@@ -20,8 +19,6 @@ use Rattle.rules.specs.Save.{now_present}
 use Rattle.rules.proofs.TableLaws.{and_fst, and_snd, and_both, or_none, clash, all_weaken, map-append, lt_of}
 use Rattle.rules.proofs.Loops.{put_behind, put_before}
 use Rattle.table.specs.Records.{cmp, spot_by, spot, place}
-use Rattle.table.specs.declared.Spot.{Spot}
-use Rattle.table.specs.declared.Spot.TheVariants.{At, Gap}
 use Rattle.table.specs.Table.{count_of, recs, laid, holds}
 use Rattle.table.proofs.Rows.{fits_cap, cap_small, cap_room}
 use Rattle.pageset.specs.declared.PageSet.{PageSet}
@@ -94,13 +91,13 @@ module _ (sid : Id) where
         go Ordering.eq q = absurd (clash (ap compare_is_eq q) other)
         go Ordering.gt q = q ∙ sym (ap (λ (y : Ordering). next y (down last x.page)) q) ∙ e
 
-    later : (i : ℕ) (x : Present) (l : List Present) (o : Spot) → i ≡ place o → under x ≡ true → Parted i l → Parted (place (spot_by Greater o)) (x ∷ l)
+    later : (i : ℕ) (x : Present) (l : List Present) (o : Result ℕ ℕ) → i ≡ place o → under x ≡ true → Parted i l → Parted (place (spot_by Greater o)) (x ∷ l)
     unfolding all
-    later i x l (At j) e u h = record { below = and_both u (ap (λ (m : ℕ). all under (take m l)) (sym e) ∙ h.below); above = subst_above j e h.above }
+    later i x l (Ok j) e u h = record { below = and_both u (ap (λ (m : ℕ). all under (take m l)) (sym e) ∙ h.below); above = subst_above j e h.above }
       where
         subst_above : (j : ℕ) → i ≡ j → Above 0 (drop i l) → Above 0 (drop j l)
         subst_above j e a = rw (← e) a
-    later i x l (Gap j) e u h = record { below = and_both u (ap (λ (m : ℕ). all under (take m l)) (sym e) ∙ h.below); above = subst_above j e h.above }
+    later i x l (Err j) e u h = record { below = and_both u (ap (λ (m : ℕ). all under (take m l)) (sym e) ∙ h.below); above = subst_above j e h.above }
       where
         subst_above : (j : ℕ) → i ≡ j → Above 0 (drop i l) → Above 0 (drop j l)
         subst_above j e a = rw (← e) a

@@ -18,11 +18,12 @@ ghost use Rattle.presence.specs.Pages.{of_segment};
 ghost use Rattle.saves.specs.Added.{filled};
 
 use basics::id::{LogId, SegmentId};
-use basics::lsn::{Lsn, LsnAnswer};
+use basics::lsn::Lsn;
 use basics::page_count::PageCount;
 use basics::pageidx::PageIdx;
+use basics::refusal::Refusal;
 use commit::{Commit, SegmentIdx, no_checkpoints};
-use commits::{Place, lsn_at, sid_is};
+use commits::{lsn_at, sid_is};
 use entries::present_key;
 use layout::PRESENT;
 use pageset::{PageSet, Window, sets};
@@ -32,18 +33,18 @@ use volume::volume::Volume;
 // ---- what a save asks
 
 // The LSN after a log's latest, and 1 where it has no commit: 18 where none is left.
-pub fn next_lsn(commits: &[u8], log: LogId) -> LsnAnswer
+pub fn next_lsn(commits: &[u8], log: LogId) -> Result<Lsn, Refusal>
     requires { commits_ok commits.now ≡ true }
     ensures { lsn_says result ≡ lsn_after (latest_lsn (commits_in commits.now) log) }
 {
-    let Place::At(i) = commits::latest(commits, log) else {
-        return LsnAnswer::At(Lsn(1));
+    let Some(i) = commits::latest(commits, log) else {
+        return Ok(Lsn(1));
     };
     let n = lsn_at(commits, i);
     if n == 18446744073709551615 {
-        return LsnAnswer::Refused(18);
+        return Err(Refusal::NoLsnLeft);
     }
-    LsnAnswer::At(Lsn(n + 1))
+    Ok(Lsn(n + 1))
 }
 
 // Whether a commit names the segment.
@@ -51,13 +52,10 @@ fn any_commit(commits: &[u8], sid: SegmentId) -> bool
     requires { commits_ok commits.now ≡ true }
     ensures { result ≡ any (λ c. has_sid sid c.segment) (commits_in commits.now).rows }
 {
-    let n = table::count(commits);
-    let mut i: usize = 0;
-    while i < n {
+    for i in 0..table::count(commits) {
         if sid_is(commits, i, sid) {
             return true;
         }
-        i += 1;
     }
     false
 }

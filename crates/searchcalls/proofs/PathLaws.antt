@@ -1,6 +1,6 @@
 -- The search over a path. In a range the first index entry of the page decides, and it is of the range's log, so its LSN alone says where its commit stands; without one, the ranges
 -- that are left decide. The loop's invariant is that the whole path answers what the ranges from i on answer.
-use Rattle.std.proofs.Common.{◌≡◌, ℕ, ◌+◌, ◌*◌, ◌<◌, ◌≤◌, true, List, map, length, get_or, take, drop, sym, refl, ap, ◌∙◌, subst, ap₂, add-one, arith, drop_of_length-le, length-take, drop-cons, get_or-take}
+use Rattle.std.proofs.Common.{◌≡◌, ℕ, ◌+◌, ◌*◌, ◌<◌, ◌≤◌, true, List, map, length, get_or, take, drop, sym, refl, ap, ◌∙◌, subst, ap₂, add-one, arith, drop_of_length-le, length-take, drop-cons, get_or-take, Option as Maybe, Some, None}
 use mathlib.Core.Option.{Option, none, some}
 use Rattle.octets.specs.Bytes.{part}
 use Rattle.basics.specs.Answers.{Answer, done, need, ◌>>=◌}
@@ -19,8 +19,6 @@ use Rattle.volume.specs.Snapshots.{range_says}
 use Rattle.volume.specs.declared.snapshot.LogRange.{LogRange}
 use Rattle.lookups.specs.Found.{entry_lsn}
 use Rattle.commits.specs.Places.{PlaceOf}
-use Rattle.commits.specs.declared.Place.{Place}
-use Rattle.commits.specs.declared.Place.TheVariants as Place
 use Rattle.commits.proofs.LookLaws.{place_at_lem, place_missing}
 use Rattle.arguments.specs.Replies.{given, none_under, value_or}
 use Rattle.searchcalls.specs.Searches.{entry_commit, hit_says, HitOf}
@@ -29,13 +27,13 @@ use Rattle.searchcalls.specs.declared.Hit.TheVariants as Hit
 
 -- ---- the commit that an entry names
 
-module _ (t : List ℕ) (log : Id) (lsn : ℕ) (p : Place) (h : PlaceOf t (get_commit (commits_in t) log lsn) p) where
-  pub stored : (i : ℕ) → p ≡ Place.At i → HitOf t (entry_commit (commits_in t) log lsn) (Hit.At i)
+module _ (t : List ℕ) (log : Id) (lsn : ℕ) (p : Maybe ℕ) (h : PlaceOf t (get_commit (commits_in t) log lsn) p) where
+  pub stored : (i : ℕ) → p ≡ Some i → HitOf t (entry_commit (commits_in t) log lsn) (Hit.At i)
   stored i e =
       let w = place_at_lem t (get_commit (commits_in t) log lsn) p h i e in
       record { says = ap (λ (o : Option Commit). need o 21 >>= (λ c. done (some c))) w.0; inside = w.1 }
 
-  pub unstored : p ≡ Place.Missing → HitOf t (entry_commit (commits_in t) log lsn) Hit.Unstored
+  pub unstored : p ≡ None → HitOf t (entry_commit (commits_in t) log lsn) Hit.Unstored
   unstored e = record { says = ap (λ (o : Option Commit). need o 21 >>= (λ c. done (some c))) (place_missing t (get_commit (commits_in t) log lsn) p h e); inside = tt }
 
 -- ---- one range

@@ -15,14 +15,14 @@ ghost use Rattle.searchcalls.specs.Searches.{Within, hit_says, HitOf, entry_comm
 use arguments::Reply;
 use arguments::snapshots::{snapshot_arg, snapshot_ok};
 use basics::id::LogId;
-use basics::lsn::{Lsn, MaybeLsnAnswer};
+use basics::lsn::Lsn;
 use basics::pageidx::PageIdx;
-use commits::{Place, commits_formed, find_commit};
+use basics::refusal::Refusal;
+use commits::{commits_formed, find_commit};
 use entries::{checkpoints_formed, index_formed};
 use layout::COMMIT;
 use lookups::entry_in;
 use volume::snapshot::LogRange;
-use volume::volume::MaybeLsn;
 
 // Where a search ends: at a commit of the table, at no entry, or at an entry whose commit is not stored.
 #[derive(Clone, Copy)]
@@ -38,8 +38,8 @@ fn entry_commit(commits: &[u8], log: LogId, lsn: Lsn) -> Hit
     ensures { HitOf commits.now (entry_commit (commits_in commits.now) log lsn.0) result }
 {
     match find_commit(commits, log, lsn.0) {
-        Place::At(i) => Hit::At(i),
-        Place::Missing => Hit::Unstored,
+        Some(i) => Hit::At(i),
+        None => Hit::Unstored,
     }
 }
 
@@ -48,14 +48,11 @@ fn search_path(commits: &[u8], index: &[u8], path: [LogRange; 8], len: usize, pa
     requires { (commits_ok commits.now ≡ true) × (index_ok index.now ≡ true) × (len ≤ 8) }
     ensures { HitOf commits.now (search_path (commits_in commits.now) (index_in index.now) page.0 (map range_says (take len path))) result }
 {
-    let mut i: usize = 0;
-    while i < len {
+    for i in 0..len {
         let range = path[i];
-        let log = range.log;
-        if let MaybeLsn::At(lsn) = entry_in(index, range, page) {
-            return entry_commit(commits, log, lsn);
+        if let Some(lsn) = entry_in(index, range, page) {
+            return entry_commit(commits, range.log, lsn);
         }
-        i += 1;
     }
     Hit::Nothing
 }
@@ -106,17 +103,17 @@ pub fn search(commits: &[u8], index: &[u8], snapshot: &[u8], page: PageIdx, out:
 }
 
 // The highest checkpoint of a log at or below an LSN, or nothing: 20, 1.
-pub fn checkpoint_at(checkpoints: &[u8], log: LogId, lsn: Lsn) -> MaybeLsnAnswer
+pub fn checkpoint_at(checkpoints: &[u8], log: LogId, lsn: Lsn) -> Result<Option<Lsn>, Refusal>
     ensures { maybe_lsn_says result ≡ lent (checkpoints_ok checkpoints.now) (checkpoint_read (checkpoints_in checkpoints.now) log lsn.0) }
 {
     if !checkpoints_formed(checkpoints) {
-        return MaybeLsnAnswer::Refused(20);
+        return Err(Refusal::TableForm);
     }
     if lsn.0 == 0 {
-        return MaybeLsnAnswer::Refused(1);
+        return Err(Refusal::Zero);
     }
     match lookups::checkpoint_at(checkpoints, log, lsn) {
-        MaybeLsn::At(n) => MaybeLsnAnswer::At(n),
-        MaybeLsn::Missing => MaybeLsnAnswer::Nothing,
+        Some(n) => Ok(Some(n)),
+        None => Ok(None),
     }
 }

@@ -41,12 +41,10 @@ fn run_in(b: &[u8], at: usize, k: usize) -> Run
 {
     let mut below: u32 = 0;
     let mut start: u64 = 0;
-    let mut i: usize = 0;
-    while i < k {
+    for i in 0..k {
         let f = entry_in(b, at, i);
         start += f.size;
         below = f.last.0;
-        i += 1;
     }
     let f = entry_in(b, at, k);
     let end = start + f.size;
@@ -84,11 +82,9 @@ fn write_frames(list: &mut [u8], b: &[u8], n: usize)
     requires n_in_bounds { n * 417 ≤ length list.old }
     ensures { list.new ≡ put 0 (flat part_bytes.spell (parts_of (segment_in 0 b.now))) list.old }
 {
-    let mut i: usize = 0;
-    while i < n {
+    for i in 0..n {
         let range = frame_in(b, 0, i);
         range_write(list, i * RANGE, range);
-        i += 1;
     }
 }
 

@@ -40,9 +40,8 @@ fn in_domain(s: &[u8], at: usize, n: usize, start: u32) -> bool
     ensures { result ≡ domain (start + 1) last_lsn (frames_at n at s.now) }
 {
     let mut below = start;
-    let mut room: u64 = 18446744073709551615;
-    let mut i: usize = 0;
-    while i < n {
+    let mut room = u64::MAX;
+    for i in 0..n {
         let f = frame_read(s, at + i * 12);
         if f.last.0 <= below {
             return false;
@@ -52,7 +51,6 @@ fn in_domain(s: &[u8], at: usize, n: usize, start: u32) -> bool
         }
         below = f.last.0;
         room -= f.size;
-        i += 1;
     }
     true
 }
@@ -62,7 +60,7 @@ pub fn frames_form(s: &[u8], at: usize, start: u32) -> bool
     requires { at + 193 ≤ length s.now }
     ensures { result ≡ in_form frames_bytes (frames_from (start + 1)) (part at 193 s.now) }
 {
-    let n = load8(s, at) as usize;
+    let n = usize::from(load8(s, at));
     if 16 < n {
         return false;
     }
@@ -81,31 +79,27 @@ pub fn frames_count(s: &[u8], at: usize) -> usize
 }
 
 // The frames that the 193 bytes at a place spell, in an array; zero past them.
+// Kept: windows, LSNs and ranges have the same loop in their crates; a trait would want an impl where neither it nor the type stands, and a closure a law longer than the loop.
 pub fn frames_read(s: &[u8], at: usize) -> [Frame; 16]
     requires { at + 193 ≤ length s.now }
     ensures { result ≡ frames_laid (frames_bytes.read (part at 193 s.now)) }
 {
     let n = count_read(s, at, 16);
     let mut fs = no_frames();
-    let mut i: usize = 0;
-    while i < n {
-        let f = frame_read(s, at + 1 + i * 12);
-        fs[i] = f;
-        i += 1;
+    for i in 0..n {
+        fs[i] = frame_read(s, at + 1 + i * 12);
     }
     fs
 }
 
 // All frames of an array over the 192 bytes at a place.
+// Kept: windows, LSNs and ranges have the same loop in their crates; a trait would want an impl where neither it nor the type stands, and a closure a law longer than the loop.
 fn all_write(s: &mut [u8], at: usize, fs: [Frame; 16])
     requires { at + 192 ≤ length s.old }
     ensures { s.new ≡ put at (flat (λ f. frame_bytes.spell (frame_says f)) fs) s.old }
 {
-    let mut i: usize = 0;
-    while i < 16 {
-        let f = fs[i];
-        frame_write(s, at + 12 * i, f);
-        i += 1;
+    for (i, f) in fs.iter().enumerate() {
+        frame_write(s, at + 12 * i, *f);
     }
 }
 

@@ -13,7 +13,6 @@ ghost use Rattle.layout.specs.Codecs.{Codec, in_form};
 ghost use Rattle.layout.specs.Values.{set_bytes, segment_bytes, part_bytes};
 ghost use Rattle.segmentbytes.specs.Laid.{segment_laid, range_laid, part_form};
 
-use basics::page_count::MaybePage;
 use commit::{SegmentIdx, SegmentRange};
 use octets::{load_id, load64, store_id, store64};
 use setbytes::{set_first, set_form, set_read, set_write};
@@ -26,8 +25,8 @@ fn before_first(s: &[u8], at: usize) -> u32
 {
     let first = set_first(s, at);
     match first {
-        MaybePage::At(p) => p.0 - 1,
-        MaybePage::Nothing => 0,
+        Some(p) => p.0 - 1,
+        None => 0,
     }
 }
 

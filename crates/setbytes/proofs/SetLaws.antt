@@ -45,37 +45,31 @@ window_nth n at s i h = read_nth window_bytes.read 12 n at s zero_window i h
 -- ---- windows in order, one by one
 
 module _ (n at : ℕ) (s : List ℕ) (i lo : ℕ) where
-  abbrev walked : PageSet
-  walked = record { len = n; windows = windows_at n at s }
-
-  room : n ≤ length (windows_at n at s)
-  room = omega (arith, length_windows n at s)
-
-  all_shown : in_order lo (drop i (windows_at n at s)) ≡ in_order lo (drop i (shown walked))
-  all_shown = ap (λ (ws : Pages). in_order lo (drop i ws)) (sym (take_all n (windows_at n at s) (omega (arith, length_windows n at s))))
-
   pub ordered_end : n ≤ i → in_order lo (drop i (windows_at n at s)) ≡ true
-  ordered_end h = all_shown ∙ order_end walked room i lo h
+  ordered_end h = order_end (windows_at n at s) i lo (omega (arith, length_windows n at s))
 
   -- window i, as the code reads it
   module _ (h : i < n) (w : Window) (e : w ≡ window_bytes.read (part (at + i * 12) 12 s)) where
     here : get_or (windows_at n at s) i zero_window ≡ w
     here = window_nth n at s i h ∙ sym e
 
+    one_more : i < length (windows_at n at s)
+    one_more = omega (arith, length_windows n at s)
+
     pub ordered_low : w.index < lo → in_order lo (drop i (windows_at n at s)) ≡ false
-    ordered_low l = all_shown ∙ order_low walked room i lo h (rw here l)
+    ordered_low l = order_low (windows_at n at s) i lo one_more (rw here l)
 
     pub ordered_high : 67108864 ≤ w.index → in_order lo (drop i (windows_at n at s)) ≡ false
-    ordered_high l = all_shown ∙ order_high walked room i lo h (rw here l)
+    ordered_high l = order_high (windows_at n at s) i lo one_more (rw here l)
 
     pub ordered_empty : w.mask ≡ 0 → in_order lo (drop i (windows_at n at s)) ≡ false
-    ordered_empty l = all_shown ∙ order_empty walked room i lo h (rw here l)
+    ordered_empty l = order_empty (windows_at n at s) i lo one_more (rw here l)
 
     pub ordered_step : lo ≤ w.index → 0 < w.mask → w.mask < 2 ^ 64 → w.index < 67108864
         → in_order lo (drop i (windows_at n at s)) ≡ in_order (w.index + 1) (drop (i + 1) (windows_at n at s))
     ordered_step p q r t =
-        all_shown ∙ order_step walked room i lo h (rw here p) (rw here q) (rw here r) (rw here t)
-        ∙ ap₂ (λ (v : Window) (ws : Pages). in_order (v.index + 1) (drop (i + 1) ws)) here (take_all n (windows_at n at s) (omega (arith, length_windows n at s)))
+        order_step (windows_at n at s) i lo one_more (rw here p) (rw here q) (rw here r) (rw here t)
+        ∙ ap (λ (v : Window). in_order (v.index + 1) (drop (i + 1) (windows_at n at s))) here
 
 -- ---- page 0
 

@@ -11,7 +11,6 @@ ghost use Rattle.layout.specs.Codecs.{Codec, in_form};
 ghost use Rattle.layout.specs.Values.{window_bytes, set_bytes};
 ghost use Rattle.setbytes.specs.Laid.{windows_at, set_laid};
 
-use basics::page_count::MaybePage;
 use basics::pageidx::PageIdx;
 use octets::{all_zero, load8, load32, load64, store8, store32, store64};
 use pageset::{PageSet, Window};
@@ -40,11 +39,7 @@ pub fn count_read(s: &[u8], at: usize, limit: usize) -> usize
     requires { at + 1 ≤ length s.now }
     ensures { result ≡ min (be (part at 1 s.now)) limit }
 {
-    let n = load8(s, at) as usize;
-    if limit < n {
-        return limit;
-    }
-    n
+    usize::from(load8(s, at)).min(limit)
 }
 
 // Whether the n windows from a place on strictly rise, and each holds a page.
@@ -53,8 +48,7 @@ fn in_order(s: &[u8], at: usize, n: usize) -> bool
     ensures { result ≡ (rising 0 (windows_at n at s.now) && window_forms (windows_at n at s.now)) }
 {
     let mut lo: u32 = 0;
-    let mut i: usize = 0;
-    while i < n {
+    for i in 0..n {
         let w = window_read(s, at + i * 12);
         if w.index < lo {
             return false;
@@ -66,7 +60,6 @@ fn in_order(s: &[u8], at: usize, n: usize) -> bool
             return false;
         }
         lo = w.index + 1;
-        i += 1;
     }
     true
 }
@@ -91,7 +84,7 @@ pub fn set_form(s: &[u8], at: usize) -> bool
     requires { at + 385 ≤ length s.now }
     ensures { result ≡ in_form set_bytes normal_form (part at 385 s.now) }
 {
-    let n = load8(s, at) as usize;
+    let n = usize::from(load8(s, at));
     if 32 < n {
         return false;
     }
@@ -105,17 +98,15 @@ pub fn set_form(s: &[u8], at: usize) -> bool
 }
 
 // The n windows from a place on, in an array; zero past them.
+// Kept: frames, LSNs and ranges have the same loop in their crates; a trait would want an impl where neither it nor the type stands, and a closure a law longer than the loop.
 fn windows_read(s: &[u8], at: usize, n: usize) -> [Window; 32]
     requires { (n ≤ 32) × (at + n * 12 ≤ length s.now) }
     ensures { result ≡ windows_at n at s.now ++ replicate (32 - n) zero_window }
 {
     let none = Window { index: 0, mask: 0 };
     let mut ws = [none; 32];
-    let mut i: usize = 0;
-    while i < n {
-        let w = window_read(s, at + i * 12);
-        ws[i] = w;
-        i += 1;
+    for i in 0..n {
+        ws[i] = window_read(s, at + i * 12);
     }
     ws
 }
@@ -131,15 +122,13 @@ pub fn set_read(s: &[u8], at: usize) -> PageSet
 }
 
 // All windows of an array over the 384 bytes at a place.
+// Kept: frames, LSNs and ranges have the same loop in their crates; a trait would want an impl where neither it nor the type stands, and a closure a law longer than the loop.
 fn windows_write(s: &mut [u8], at: usize, ws: [Window; 32])
     requires { at + 384 ≤ length s.old }
     ensures { s.new ≡ put at (flat window_bytes.spell ws) s.old }
 {
-    let mut i: usize = 0;
-    while i < 32 {
-        let w = ws[i];
-        window_write(s, at + 12 * i, w);
-        i += 1;
+    for (i, w) in ws.iter().enumerate() {
+        window_write(s, at + 12 * i, *w);
     }
 }
 
@@ -156,16 +145,16 @@ pub fn set_write(s: &mut [u8], at: usize, x: PageSet)
 }
 
 // The first page of a page set in form, or nothing: trailing zeros of the first mask.
-pub fn set_first(s: &[u8], at: usize) -> MaybePage
+pub fn set_first(s: &[u8], at: usize) -> Option<PageIdx>
     requires at_in_bounds { at + 385 ≤ length s.now }
     requires s_value { in_form set_bytes normal_form (part at 385 s.now) ≡ true }
     ensures { maybe_page_says result ≡ first_page (set_bytes.read (part at 385 s.now)) }
 {
     if load8(s, at) == 0 {
-        return MaybePage::Nothing;
+        return None;
     }
     let index = load32(s, at + 1);
     let mask = load64(s, at + 5);
     let b = u64::trailing_zeros(mask);
-    MaybePage::At(PageIdx(index * 64 + b))
+    Some(PageIdx(index * 64 + b))
 }

@@ -20,11 +20,7 @@ fn ranges_at(s: &[u8], at: usize) -> usize
     requires { at + 262 ≤ length s.now }
     ensures { result ≡ min (be (part (at + 5) 1 s.now)) 8 }
 {
-    let n = octets::load8(s, at + 5);
-    if 8 < n {
-        return 8;
-    }
-    n as usize
+    usize::from(octets::load8(s, at + 5)).min(8)
 }
 
 // Whether the bytes at a place are a snapshot's: the reserved byte is 0, at most 8 ranges, zero past them. Where they are not, number 3.
@@ -50,25 +46,19 @@ fn range_read(s: &[u8], at: usize) -> LogRange
     let log = octets::load_id(s, at);
     let start = Lsn(octets::load64(s, at + 16));
     let end = Lsn(octets::load64(s, at + 24));
-    LogRange {
-        log: log,
-        start: start,
-        end: end,
-    }
+    LogRange { log, start, end }
 }
 
 // The n ranges from a place on, and zero past them.
+// Kept: windows, frames and LSNs have the same loop in their crates; a trait would want an impl where neither it nor the type stands, and a closure a law longer than the loop.
 fn path_read(s: &[u8], at: usize, n: usize) -> [LogRange; 8]
     requires { (n ≤ 8) × (at + 256 ≤ length s.now) }
     ensures { result ≡ map laid_range (map range_bytes.read (runs n 32 at s.now)) ++ replicate (8 - n) no_range }
 {
     let empty = Snapshot::empty(PageCount(0));
     let mut path = empty.path;
-    let mut i: usize = 0;
-    while i < n {
-        let range = range_read(s, at + i * 32);
-        path[i] = range;
-        i += 1;
+    for i in 0..n {
+        path[i] = range_read(s, at + i * 32);
     }
     path
 }
@@ -81,11 +71,7 @@ pub fn snapshot_read(s: &[u8], at: usize) -> Snapshot
     let count = PageCount(octets::load32(s, at + 1));
     let len = ranges_at(s, at);
     let path = path_read(s, at + 6, len);
-    Snapshot {
-        len: len,
-        path: path,
-        count: count,
-    }
+    Snapshot { len, path, count }
 }
 
 // A range over the 32 bytes at a place. (A log has 16 bytes.)
@@ -101,16 +87,14 @@ fn range_write(s: &mut [u8], at: usize, range: LogRange)
 }
 
 // The 8 ranges of a path, 256 bytes, over those from a place on.
+// Kept: windows, frames and LSNs have the same loop in their crates; a trait would want an impl where neither it nor the type stands, and a closure a law longer than the loop.
 fn path_write(s: &mut [u8], at: usize, path: [LogRange; 8])
     requires { at + 256 ≤ length s.old }
     ensures s_after { s.new ≡ put at (flat (λ r. range_bytes.spell (range_says r)) path) s.old }
     ensures path_len { length (flat (λ r. range_bytes.spell (range_says r)) path) ≡ 256 }
 {
-    let mut i: usize = 0;
-    while i < 8 {
-        let range = path[i];
-        range_write(s, at + i * 32, range);
-        i += 1;
+    for (i, range) in path.iter().enumerate() {
+        range_write(s, at + i * 32, *range);
     }
 }
 

@@ -1,6 +1,7 @@
 -- The ends of the calls: for each way out of the code, the rule's answer. A decision goes by the changes of the remote and then of the local log; 17 is never met, since
 -- changes end at a head that is past their base. A volume that was found and changed is stored in its own place, since its identifier stays.
-use Rattle.std.proofs.Common.{◌≡◌, ℕ, ◌+◌, ◌-◌, ◌^◌, ◌<◌, Bool, true, false, not, ◌&&◌, eqb, ltb, List, ◌∷◌, length, sym, refl, ap, ◌∙◌, ap₂, arith, ltb-true, eq-eqb, ne_eqb, eqb-true, le-leb}
+use Rattle.std.specs.Prelude as std
+use Rattle.std.proofs.Common.{◌≡◌, ℕ, ◌+◌, ◌-◌, ◌^◌, ◌<◌, Bool, true, false, not, ◌&&◌, eqb, ltb, List, ◌∷◌, length, sym, refl, ap, ◌∙◌, ap₂, arith, ltb-true, eq-eqb, ne_eqb, eqb-true, le-leb, Result, Ok, Err, Option as Maybe, Some, None}
 use mathlib.Core.Option.{Option, none, some, map}
 use borrow.Author.Tests.{eqb-false}
 use Rattle.basics.specs.Answers.{Answer, refused, done, code, ask, need, ◌>>◌, ◌>>=◌}
@@ -20,8 +21,6 @@ use Rattle.rules.proofs.Kept.{mark_form, remote_form, moved_form, latest_form, s
 use Rattle.rules.proofs.AnswerLaws.{done_same, refused_done}
 use Rattle.table.specs.Records.{spot}
 use Rattle.table.specs.Table.{recs}
-use Rattle.table.specs.declared.Spot.{Spot}
-use Rattle.table.specs.declared.Spot.TheVariants.{At}
 use Rattle.layout.specs.Lent.{lent, after}
 use Rattle.layout.specs.Records.{volume_bytes}
 use Rattle.layout.specs.Tables.{volumes_in, volumes_ok, commits_in, commits_ok}
@@ -31,11 +30,11 @@ use Rattle.rows.specs.Lookups.{nth, at_spot}
 use Rattle.rows.proofs.Rows.{formed_forms, laid_same}
 use Rattle.rows.proofs.Tables.{volumes, commits}
 use Rattle.volume.specs.Volumes.{maybe_lsn_says, sync_says, pending_says, changes_says, volume_says}
-use Rattle.volume.specs.declared.volume.MaybeLsn.{MaybeLsn}
-use Rattle.volume.specs.declared.volume.Sync.TheVariants as Sync
 use Rattle.volume.proofs.ChangeLaws.{past_zero}
-use Rattle.volume.specs.declared.volume.ChangesAnswer.{ChangesAnswer}
-use Rattle.volume.specs.declared.volume.ChangesAnswer.TheVariants as Changes
+use Rattle.volume.specs.declared.volume.LsnRange.{LsnRange}
+use Rattle.volume.specs.declared.volume.PendingCommit.{PendingCommit}
+use Rattle.basics.specs.declared.refusal.Refusal.{Refusal}
+use Rattle.basics.specs.declared.refusal.Refusal.TheVariants as Refusal
 use Rattle.volume.specs.declared.volume.Volume.{Volume as CodeVolume}
 use Rattle.basics.specs.declared.lsn.Lsn.{Lsn}
 use Rattle.volumebytes.specs.Laid.{volume_laid}
@@ -43,8 +42,6 @@ use Rattle.volumebytes.proofs.RoundLaws.{says_laid}
 use Rattle.volumecalls.proofs.Ends.{made_of, here, found_form, found_vid}
 use Rattle.viewcalls.proofs.Ends.{formed}
 use Rattle.synccalls.specs.Pulls.{sync_found, pull_says, pull_form, Pulls}
-use Rattle.synccalls.specs.declared.Pull.{Pull}
-use Rattle.synccalls.specs.declared.Pull.TheVariants as Pull
 
 -- ---- forms: no LSN of a record is 0
 
@@ -55,12 +52,12 @@ lsn_counts (some n) e = and_fst _ _ e
 
 -- ---- changes of a log since a base that is in form
 
-changes_are : (r : ChangesAnswer) (b : Option ℕ) (u : List ℕ) (log : Id) → given lsn_form b ≡ true → commits_ok u ≡ true
+changes_are : (r : Result (Maybe LsnRange) Refusal) (b : Option ℕ) (u : List ℕ) (log : Id) → given lsn_form b ≡ true → commits_ok u ≡ true
     → changes_says r ≡ changes b (latest_lsn (commits_in u) log) → changes_says r ≡ changed b (latest_lsn (commits_in u) log)
 changes_are r b u log f ok e =
     e ∙ sym (past_zero b (latest_lsn (commits_in u) log) (changed b (latest_lsn (commits_in u) log)) b refl (lsn_counts b f) (lsn_counts (latest_lsn (commits_in u) log) (latest_form (commits_in u) log (formed_forms commits u ok))) refl)
 
-module _ (u : List ℕ) (ok : commits_ok u ≡ true) (v : Volume) (form : volume_form v ≡ true) (r : ChangesAnswer) (base head : Option ℕ) (e : changes_says r ≡ changes base head) where
+module _ (u : List ℕ) (ok : commits_ok u ≡ true) (v : Volume) (form : volume_form v ≡ true) (r : Result (Maybe LsnRange) Refusal) (base head : Option ℕ) (e : changes_says r ≡ changes base head) where
   -- of the remote since sync.remote
   pub remote_changes : base ≡ remote_of v.sync → head ≡ latest_lsn (commits_in u) v.remote → changes_says r ≡ changed (remote_of v.sync) (latest_lsn (commits_in u) v.remote)
   remote_changes p q = changes_are r (remote_of v.sync) u v.remote (remote_form v.sync (sync_form_lem v form)) ok (e ∙ ap₂ (λ (a b : Option ℕ). changes a b) p q)
@@ -82,49 +79,49 @@ up_to (some b) (some h) r e =
 
 -- ---- what sync decides on a volume
 
-module _ (cs : Table Commit) (v : Volume) (r : ChangesAnswer) (e : changes_says r ≡ changed (remote_of v.sync) (latest_lsn cs v.remote)) where
-  told : (a : ChangesAnswer) → r ≡ a → (vs : Table Volume) → (changes_says a >>= sync_by vs cs v) ≡ sync_found vs cs v
+module _ (cs : Table Commit) (v : Volume) (r : Result (Maybe LsnRange) Refusal) (e : changes_says r ≡ changed (remote_of v.sync) (latest_lsn cs v.remote)) where
+  told : (a : Result (Maybe LsnRange) Refusal) → r ≡ a → (vs : Table Volume) → (changes_says a >>= sync_by vs cs v) ≡ sync_found vs cs v
   told a h vs = ap (λ (x : Answer (Option (ℕ × ℕ))). x >>= sync_by vs cs v) (ap changes_says (sym h) ∙ e)
 
   -- the remote's head is missing
-  pub remote_refused : (n : ℕ) → r ≡ Changes.Refused n → Pulls (λ vs. sync_found vs cs v) v (Pull.Refused n)
-  remote_refused n h = record { says = told (Changes.Refused n) h; form = refl }
+  pub remote_refused : (n : Refusal) → r ≡ Err n → Pulls (λ vs. sync_found vs cs v) v (Err n)
+  remote_refused n h = record { says = told (Err n) h; form = refl }
 
   -- the remote has no changes
-  pub remote_same : r ≡ Changes.Nothing → Pulls (λ vs. sync_found vs cs v) v Pull.Nothing
-  remote_same h = record { says = told Changes.Nothing h; form = refl }
+  pub remote_same : r ≡ Ok None → Pulls (λ vs. sync_found vs cs v) v (Ok None)
+  remote_same h = record { says = told (Ok None) h; form = refl }
 
   -- it has: then what the local log decides
-  pub remote_moved : (start end : Lsn) → r ≡ Changes.Range start end → (p : Pull) → Pulls (λ vs. sync_by vs cs v (some (1, end.0))) v p → Pulls (λ vs. sync_found vs cs v) v p
-  remote_moved start end h p q = record { says = λ vs. q.says vs ∙ told (Changes.Range start end) h vs; form = q.form }
+  pub remote_moved : (x : LsnRange) → r ≡ Ok (Some x) → (p : Result (Maybe Lsn) Refusal) → Pulls (λ vs. sync_by vs cs v (some (1, x.end.0))) v p → Pulls (λ vs. sync_found vs cs v) v p
+  remote_moved x h p q = record { says = λ vs. q.says vs ∙ told (Ok (Some x)) h vs; form = q.form }
 
 -- the end of the remote's changes is an LSN to move to
-pub remote_end : (u : List ℕ) → commits_ok u ≡ true → (v : Volume) (r : ChangesAnswer) → changes_says r ≡ changed (remote_of v.sync) (latest_lsn (commits_in u) v.remote)
-    → (start end : Lsn) → r ≡ Changes.Range start end → (lsn_form end.0 ≡ true) × (not_older (remote_of v.sync) end.0 ≡ true)
-remote_end u ok v r e start end h =
-    let k = up_to (remote_of v.sync) (latest_lsn (commits_in u) v.remote) (start.0, end.0) (sym e ∙ ap changes_says h) in
+pub remote_end : (u : List ℕ) → commits_ok u ≡ true → (v : Volume) (r : Result (Maybe LsnRange) Refusal) → changes_says r ≡ changed (remote_of v.sync) (latest_lsn (commits_in u) v.remote)
+    → (x : LsnRange) → r ≡ Ok (Some x) → (lsn_form x.end.0 ≡ true) × (not_older (remote_of v.sync) x.end.0 ≡ true)
+remote_end u ok v r e x h =
+    let k = up_to (remote_of v.sync) (latest_lsn (commits_in u) v.remote) (x.start.0, x.end.0) (sym e ∙ ap changes_says h) in
     (ap (given lsn_form) (sym k.0) ∙ latest_form (commits_in u) v.remote (formed_forms commits u ok), k.1)
 
 -- what is left of sync by the changes of the local log
 abbrev local_rest : Table Volume → Volume → ℕ → Answer (Option (ℕ × ℕ)) → Answer (Table Volume)
 local_rest vs v end a = a >>= (λ o. ask (is_none o) 8 >> (ask (not_older (remote_of v.sync) end) 17 >> done (store volume_key bytes (moved_volume v end) vs)))
 
-module _ (cs : Table Commit) (v : Volume) (r : ChangesAnswer) (e : changes_says r ≡ changed (watermark_of v.sync) (latest_lsn cs v.local)) (to : Lsn) where
-  told_local : (a : ChangesAnswer) → r ≡ a → (vs : Table Volume) → local_rest vs v to.0 (changes_says a) ≡ sync_by vs cs v (some (1, to.0))
+module _ (cs : Table Commit) (v : Volume) (r : Result (Maybe LsnRange) Refusal) (e : changes_says r ≡ changed (watermark_of v.sync) (latest_lsn cs v.local)) (to : Lsn) where
+  told_local : (a : Result (Maybe LsnRange) Refusal) → r ≡ a → (vs : Table Volume) → local_rest vs v to.0 (changes_says a) ≡ sync_by vs cs v (some (1, to.0))
   told_local a h vs = ap (local_rest vs v to.0) (ap changes_says (sym h) ∙ e)
 
   -- the local log's head is missing
-  pub local_refused : (n : ℕ) → r ≡ Changes.Refused n → Pulls (λ vs. sync_by vs cs v (some (1, to.0))) v (Pull.Refused n)
-  local_refused n h = record { says = told_local (Changes.Refused n) h; form = refl }
+  pub local_refused : (n : Refusal) → r ≡ Err n → Pulls (λ vs. sync_by vs cs v (some (1, to.0))) v (Err n)
+  local_refused n h = record { says = told_local (Err n) h; form = refl }
 
   -- the local log has changes too
-  pub local_moved : (start end : Lsn) → r ≡ Changes.Range start end → Pulls (λ vs. sync_by vs cs v (some (1, to.0))) v (Pull.Refused 8)
-  local_moved start end h = record { says = told_local (Changes.Range start end) h; form = refl }
+  pub local_moved : (x : LsnRange) → r ≡ Ok (Some x) → Pulls (λ vs. sync_by vs cs v (some (1, to.0))) v (Err Refusal.Diverged)
+  local_moved x h = record { says = told_local (Ok (Some x)) h; form = refl }
 
   -- it has none
-  pub local_same : r ≡ Changes.Nothing → lsn_form to.0 ≡ true → not_older (remote_of v.sync) to.0 ≡ true → Pulls (λ vs. sync_by vs cs v (some (1, to.0))) v (Pull.To to)
+  pub local_same : r ≡ Ok None → lsn_form to.0 ≡ true → not_older (remote_of v.sync) to.0 ≡ true → Pulls (λ vs. sync_by vs cs v (some (1, to.0))) v (Ok (Some to))
   local_same h form newer = record {
-    says = λ vs. ap (λ (b : Bool). ask b 17 >> done (store volume_key bytes (moved_volume v to.0) vs)) (sym newer) ∙ told_local Changes.Nothing h vs;
+    says = λ vs. ap (λ (b : Bool). ask b 17 >> done (store volume_key bytes (moved_volume v to.0) vs)) (sym newer) ∙ told_local (Ok None) h vs;
     form = form;
   }
 
@@ -146,14 +143,14 @@ module _ (t u : List ℕ) (vid : Id) (ok : volumes_ok t ≡ true) (oku : commits
   sync_nowhere e = sync_is ∙ ap synced e
 
   -- what was decided on the volume that was found
-  pub sync_decided : (x : CodeVolume) (p q : Pull) → get_volume (volumes_in t) vid ≡ some (volume_says x) → Pulls (λ vs. sync_found vs (commits_in u) (volume_says x)) (volume_says x) p → p ≡ q
+  pub sync_decided : (x : CodeVolume) (p q : Result (Maybe Lsn) Refusal) → get_volume (volumes_in t) vid ≡ some (volume_says x) → Pulls (λ vs. sync_found vs (commits_in u) (volume_says x)) (volume_says x) p → p ≡ q
       → lent (volumes_ok t && commits_ok u) (sync (volumes_in t) (commits_in u) vid) ≡ pull_says (volumes_in t) (volume_says x) q
   unfolding synced
   sync_decided x p q e h same = sync_is ∙ ap synced e ∙ sym (h.says (volumes_in t)) ∙ ap (pull_says (volumes_in t) (volume_says x)) same
 
 -- ---- the volume x that was found at place i, changed and stored there
 
-module _ (t : List ℕ) (vid : Id) (ok : volumes_ok t ≡ true) (o : Spot) (i : ℕ) (says : at_spot o (volumes_in t).rows ≡ get_volume (volumes_in t) vid) (hit : o ≡ At i)
+module _ (t : List ℕ) (vid : Id) (ok : volumes_ok t ≡ true) (o : Result ℕ ℕ) (i : ℕ) (says : at_spot o (volumes_in t).rows ≡ get_volume (volumes_in t) vid) (hit : o ≡ Ok i)
     (x : CodeVolume) (read : map volume_laid (nth i (volumes_in t).rows) ≡ some x) where
   pub found_here : get_volume (volumes_in t) vid ≡ some (volume_says x)
   found_here =
@@ -165,7 +162,7 @@ module _ (t : List ℕ) (vid : Id) (ok : volumes_ok t ≡ true) (o : Spot) (i : 
 
   -- a volume in form with the same identifier goes into its place
   pub store_ready : o ≡ spot 17 (0 ∷ vid) (recs 117 t) → (y : CodeVolume) → y.vid ≡ x.vid → volume_form (volume_says y) ≡ true
-      → ((volumes_ok t ≡ true) × (volume_form (volume_says y) ≡ true)) × (spot 17 (0 ∷ y.vid) (recs 117 t) ≡ At i)
+      → ((volumes_ok t ≡ true) × (volume_form (volume_says y) ≡ true)) × (spot 17 (0 ∷ y.vid) (recs 117 t) ≡ Ok i)
   store_ready place y same form = (
     (ok, form),
     ap (λ (z : List ℕ). spot 17 (0 ∷ z) (recs 117 t)) (same ∙ sym (found_vid t vid ok (volume_says x) found_here)) ∙ sym place ∙ hit,
@@ -176,18 +173,28 @@ pub kept : (t : List ℕ) (a : Answer (Table Volume)) → AreBytes t → volumes
 kept t a bs ok e = stores volume_bytes t a (volumes_in t) t e (sym (laid_same volumes t bs ok))
 
 -- what the code's volume says once its sync point was moved
-pub moved_says : (x y : CodeVolume) (n : Lsn) (w : MaybeLsn) → maybe_lsn_says w ≡ watermark_of (sync_says x.sync)
-    → y ≡ record { vid = x.vid; local = x.local; remote = x.remote; sync = Sync.At (record { remote = n; watermark = w }); pending = x.pending; pending_hash = x.pending_hash }
+pub moved_says : (x y : CodeVolume) (n : Lsn) (w : Maybe Lsn) → maybe_lsn_says w ≡ watermark_of (sync_says x.sync)
+    → y ≡ record { vid = x.vid; local = x.local; remote = x.remote; sync = Some (record { remote = n; watermark = w }); pending = x.pending }
     → volume_says y ≡ moved_volume (volume_says x) n.0
 moved_says x y n w mark made =
     ap volume_says made
-    ∙ ap (λ (m : Option ℕ). record { vid = x.vid; local = x.local; remote = x.remote; sync = some (record { remote = n.0; watermark = m }); pending = pending_says x.pending x.pending_hash }) mark
+    ∙ ap (λ (m : Option ℕ). record { vid = x.vid; local = x.local; remote = x.remote; sync = some (record { remote = n.0; watermark = m }); pending = pending_says x.pending }) mark
 
 -- that volume is in form, where the LSN was decided on
-pub moved_ready : (x y : CodeVolume) (n : Lsn) (p : Pull) → volume_says y ≡ moved_volume (volume_says x) n.0 → volume_form (volume_says x) ≡ true → p ≡ Pull.To n → pull_form p ≡ true → volume_form (volume_says y) ≡ true
+pub moved_ready : (x y : CodeVolume) (n : Lsn) (p : Result (Maybe Lsn) Refusal) → volume_says y ≡ moved_volume (volume_says x) n.0 → volume_form (volume_says x) ≡ true → p ≡ Ok (Some n) → pull_form p ≡ true → volume_form (volume_says y) ≡ true
 moved_ready x y n p says form same good = ap volume_form says ∙ moved_form (volume_says x) n.0 form (sym (ap pull_form same) ∙ good)
 
 -- ---- prepare
+
+-- the volume with the pending commit that was made
+pub pushes : (x y : CodeVolume) (p q : PendingCommit) → y ≡ record { vid = x.vid; local = x.local; remote = x.remote; sync = x.sync; pending = Some p } → p ≡ q
+    → y ≡ record { vid = x.vid; local = x.local; remote = x.remote; sync = x.sync; pending = Some q }
+pushes x y p q e f = e ∙ ap (λ (z : PendingCommit). record { vid = x.vid; local = x.local; remote = x.remote; sync = x.sync; pending = Some z }) f
+
+-- std's test of what is pending is the rule's
+pub none_says : (q : Maybe PendingCommit) → std.is_none q ≡ is_none (pending_says q)
+none_says None = refl
+none_says (Some p) = refl
 
 -- no LSN is before 0, and the one before n is n - 1
 pub not_next : (m n : ℕ) → n ≡ 0 → eqb (m + 1) n ≡ false

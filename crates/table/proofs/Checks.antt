@@ -1,8 +1,10 @@
 -- The check of a table, and the search by halving: what `well_ordered` says, a turn of the check of the order, and a turn of the search.
+use Rattle.std.proofs.Common.{Ok, Err}
 use mathlib.Core.Path.{◌≡◌, refl, sym, ap, ◌∙◌}
 use mathlib.Core.Bool.{Bool, true, false, not, ◌&&◌}
-use mathlib.Core.List.{List, []}
+use mathlib.Core.List.{List, [], ◌∷◌}
 use Prim.Native.Nat.{ℕ, zero, suc, ◌+◌, ◌-◌, ◌*◌, ◌≤◌, ◌<◌}
+use native.Mathlib.Nat.{zero-mul}
 use native.Mathlib.Omega.{arith}
 use lib.ListN.{length, get_or}
 use lib.Dec.{leb}
@@ -11,7 +13,6 @@ use Rattle.octets.specs.Bytes.{part}
 use Rattle.octets.specs.Order.{lex, is_less, is_equal}
 use Rattle.table.specs.Records.{cmp, rises, spot, place}
 use Rattle.table.specs.Table.{runs, count_of, cap_of, recs, well_ordered}
-use Rattle.table.specs.declared.Spot.TheVariants.{At, Gap}
 use Rattle.table.proofs.Keys.{both_true}
 use Rattle.table.proofs.Rows.{length_runs, runs_at, recs_are, key_at, cap_room}
 use Rattle.table.proofs.Spots.{place_below, place_above, spot_end, spot_hit, spot_miss}
@@ -61,14 +62,14 @@ module _ (s k : ℕ) (t : List ℕ) where
 
 -- ---- the keys rise: a pair a turn
 
--- that the keys from that of record i - 1 on, which stands at `at`, rise
-unfoldable pub ahead : ℕ → ℕ → ℕ → ℕ → List ℕ → ℕ → Bool
-ahead s k n i t at = rises k (runs (suc (n - i)) s at t)
+-- that the keys from that of record i - 1 on rise
+unfoldable pub ahead : ℕ → ℕ → ℕ → ℕ → List ℕ → Bool
+ahead s k n i t = rises k (runs (suc (n - i)) s (2 + (i - 1) * s) t)
 
 module _ (s k n : ℕ) (t : List ℕ) where
-  pub ahead_start : rises k (runs n s 2 t) ≡ ahead s k n 1 t 2
+  pub ahead_start : rises k (runs n s 2 t) ≡ ahead s k n 1 t
   unfolding ahead runs
-  ahead_start = go n
+  ahead_start = rw zero-mul (go n)
     where
       go : (m : ℕ) → rises k (runs m s 2 t) ≡ rises k (runs (suc (m - 1)) s 2 t)
       go zero = refl
@@ -76,22 +77,28 @@ module _ (s k n : ℕ) (t : List ℕ) where
           let e : suc m - 1 ≡ m = omega arith in
           rw e
 
-  module _ (i at : ℕ) (h : k ≤ s) (l : i < n) (b : Bool) (e : b ≡ is_less (lex (part at k t) (part (at + s) k t))) where
-    ahead_pair : ahead s k n i t at ≡ (b && ahead s k n (i + 1) t (at + s))
+  module _ (i : ℕ) (h : k ≤ s) (o : 1 ≤ i) (l : i < n) (b : Bool) (e : b ≡ is_less (lex (part (2 + i * s - s) k t) (part (2 + i * s) k t))) where
+    ahead_pair : ahead s k n i t ≡ (b && ahead s k n (i + 1) t)
     unfolding ahead runs
     ahead_pair =
         let f : n - i ≡ suc (n - (i + 1)) = omega arith in
-        rw (e, f, key_at s k at t h, key_at s k (at + s) t h)
+        let up : i ≡ suc (i - 1) = omega arith in
+        let row : i * s ≡ suc (i - 1) * s = ap (λ (m : ℕ). m * s) up in
+        let next : 2 + (i - 1) * s + s ≡ 2 + i * s = omega (arith, row) in
+        let at : 2 + (i - 1) * s ≡ 2 + i * s - s = omega (arith, row) in
+        let j : i + 1 - 1 ≡ i = omega arith in
+        rw (e, f, next, at, j, key_at s k (2 + i * s - s) t h, key_at s k (2 + i * s) t h)
+        (ap (λ (m : ℕ). is_less (lex (part (2 + i * s - s) k t) (part (2 + i * s) k t)) && rises k (part m s t ∷ runs (n - (i + 1)) s (2 + i * s + s) t)) next)
 
-    pub ahead_more : not b ≡ false → ahead s k n i t at ≡ ahead s k n (i + 1) t (at + s)
+    pub ahead_more : not b ≡ false → ahead s k n i t ≡ ahead s k n (i + 1) t
     ahead_more f = ahead_pair ∙ rw (not-false b f)
 
-    pub ahead_not : not b ≡ true → ahead s k n i t at ≡ false
+    pub ahead_not : not b ≡ true → ahead s k n i t ≡ false
     ahead_not f = ahead_pair ∙ rw (not-true b f)
 
-  pub ahead_end : (i at : ℕ) → n ≤ i → ahead s k n i t at ≡ true
+  pub ahead_end : (i : ℕ) → n ≤ i → ahead s k n i t ≡ true
   unfolding ahead runs
-  ahead_end i at h =
+  ahead_end i h =
       let f : n - i ≡ 0 = omega arith in
       rw f
 
@@ -112,12 +119,12 @@ module _ (s k n : ℕ) (t key : List ℕ) (h : k ≤ s) where
 
   -- the spot by its place
   module _ (i : ℕ) (p : i ≡ place (spot k key (runs n s 2 t))) where
-    pub find_end : i ≡ n → spot k key (runs n s 2 t) ≡ Gap i
+    pub find_end : i ≡ n → spot k key (runs n s 2 t) ≡ Err i
     find_end e = spot_end k key (runs n s 2 t) i p (e ∙ sym (length_runs s n 2 t))
 
     module _ (l : i < n) (b : Bool) (e : b ≡ is_equal (lex (part (2 + i * s) k t) (part 0 k key))) where
-      pub find_hit : b ≡ true → spot k key (runs n s 2 t) ≡ At i
+      pub find_hit : b ≡ true → spot k key (runs n s 2 t) ≡ Ok i
       find_hit f = spot_hit k key (runs n s 2 t) i p (ap is_equal (sym (in_place i l)) ∙ sym e ∙ f) (omega (arith, length_runs s n 2 t))
 
-      pub find_miss : b ≡ false → spot k key (runs n s 2 t) ≡ Gap i
+      pub find_miss : b ≡ false → spot k key (runs n s 2 t) ≡ Err i
       find_miss f = spot_miss k key (runs n s 2 t) i p (ap is_equal (sym (in_place i l)) ∙ sym e ∙ f)

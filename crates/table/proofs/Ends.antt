@@ -1,4 +1,5 @@
 -- What `put` and `room` hand on and answer, by where the key stands; and the laws that callers cite of a table that was laid, and of one after a removal.
+use Rattle.std.proofs.Common.{Result, Ok, Err}
 use mathlib.Core.Path.{◌≡◌, sym, ap, ◌∙◌}
 use mathlib.Core.Bool.{Bool, true}
 use mathlib.Core.List.{List}
@@ -10,8 +11,6 @@ use lib.Dec.{leb}
 use borrow.Author.Tests.{le-leb, lt-leb}
 use Rattle.table.specs.Records.{rises, spot, inserted, removed, put}
 use Rattle.table.specs.Table.{Each, count_of, cap_of, recs, laid, well_ordered, holds, fits}
-use Rattle.table.specs.declared.Spot.{Spot}
-use Rattle.table.specs.declared.Spot.TheVariants.{At, Gap}
 use Rattle.table.proofs.Rows.{cap_small, cap_room, room_cap, fits_cap, length_recs, each_recs, length_laid, count_of_laid, recs_laid}
 use Rattle.table.proofs.Spots.{at_lt, gap_le, put_at, put_gap, length_put_at, length_put_gap, length_put_le, each_removed, rises_removed, length_removed}
 use Rattle.table.proofs.Checks.{well_two, well_count, well_rises, well_room, well_made}
@@ -39,18 +38,18 @@ holds_true s n t h = le-leb n (cap_of s t) h
 
 -- ---- `put` and `room`, by where the key stands
 
-module _ (s k : ℕ) (t r : List ℕ) (i : ℕ) (o : Spot) (f : o ≡ spot k r (recs s t)) where
+module _ (s k : ℕ) (t r : List ℕ) (i : ℕ) (o : Result ℕ ℕ) (f : o ≡ spot k r (recs s t)) where
   -- the place of a record
-  pub at_in : o ≡ At i → i < count_of t
+  pub at_in : o ≡ Ok i → i < count_of t
   at_in e = omega (arith, at_lt k r (recs s t) i (sym f ∙ e), length_recs s t)
 
-  pub at_ready : o ≡ At i → 0 < s → length r ≡ s → well_ordered s k t ≡ true → (0 < s) × (i < count_of t) × (count_of t ≤ cap_of s t) × (length r ≡ s)
+  pub at_ready : o ≡ Ok i → 0 < s → length r ≡ s → well_ordered s k t ≡ true → (0 < s) × (i < count_of t) × (count_of t ≤ cap_of s t) × (length r ≡ s)
   at_ready e p l w = (p, at_in e, well_count s k t w, l)
 
-  one_more : o ≡ Gap i → length (put k r (recs s t)) ≡ count_of t + 1
+  one_more : o ≡ Err i → length (put k r (recs s t)) ≡ count_of t + 1
   one_more e = length_put_gap k r (recs s t) i (sym f ∙ e) ∙ ap (λ (n : ℕ). n + 1) (length_recs s t)
 
-  pub gap_ready : o ≡ Gap i → 0 < s → length r ≡ s → fits s (put k r (recs s t)) t ≡ true → (0 < s) × (i ≤ count_of t) × (count_of t < cap_of s t) × (length r ≡ s)
+  pub gap_ready : o ≡ Err i → 0 < s → length r ≡ s → fits s (put k r (recs s t)) t ≡ true → (0 < s) × (i ≤ count_of t) × (count_of t < cap_of s t) × (length r ≡ s)
   gap_ready e p l g = (
     p,
     omega (arith, gap_le k r (recs s t) i (sym f ∙ e), length_recs s t),
@@ -58,18 +57,18 @@ module _ (s k : ℕ) (t r : List ℕ) (i : ℕ) (o : Spot) (f : o ≡ spot k r (
     l,
   )
 
-  pub at_done : o ≡ At i → (q : List ℕ) → q ≡ laid (set (recs s t) i r) t → q ≡ laid (put k r (recs s t)) t
+  pub at_done : o ≡ Ok i → (q : List ℕ) → q ≡ laid (set (recs s t) i r) t → q ≡ laid (put k r (recs s t)) t
   at_done e q g = g ∙ ap (λ (l : List (List ℕ)). laid l t) (sym (put_at k r (recs s t) i (sym f ∙ e)))
 
-  pub gap_done : o ≡ Gap i → (q : List ℕ) → q ≡ laid (inserted i r (recs s t)) t → q ≡ laid (put k r (recs s t)) t
+  pub gap_done : o ≡ Err i → (q : List ℕ) → q ≡ laid (inserted i r (recs s t)) t → q ≡ laid (put k r (recs s t)) t
   gap_done e q g = g ∙ ap (λ (l : List (List ℕ)). laid l t) (sym (put_gap k r (recs s t) i (sym f ∙ e)))
 
-  pub room_at : o ≡ At i → well_ordered s k t ≡ true → true ≡ fits s (put k r (recs s t)) t
+  pub room_at : o ≡ Ok i → well_ordered s k t ≡ true → true ≡ fits s (put k r (recs s t)) t
   room_at e w =
       sym (fits_by s (count_of t) (put k r (recs s t)) t (length_put_at k r (recs s t) i (sym f ∙ e) ∙ length_recs s t)
       ∙ holds_true s (count_of t) t (well_count s k t w))
 
-  pub room_gap : o ≡ Gap i → (b : Bool) → b ≡ holds s (count_of t + 1) t → b ≡ fits s (put k r (recs s t)) t
+  pub room_gap : o ≡ Err i → (b : Bool) → b ≡ holds s (count_of t + 1) t → b ≡ fits s (put k r (recs s t)) t
   room_gap e b g = g ∙ sym (fits_by s (count_of t + 1) (put k r (recs s t)) t (one_more e))
   -- ---- what was found
 

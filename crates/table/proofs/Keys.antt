@@ -9,8 +9,7 @@ use native.Mathlib.Decide.{dec_lt}
 use lib.ListN.{length, take, drop, get_or, take-append-drop}
 use Rattle.octets.specs.Bytes.{part}
 use Rattle.octets.specs.Order.{lex, turned, is_less}
-use Rattle.octets.specs.declared.Order.{Order}
-use Rattle.octets.specs.declared.Order.TheVariants.{Less, Equal, Greater}
+use Rattle.std.proofs.Common.{Ordering, Less, Equal, Greater}
 use Rattle.octets.proofs.Orders as O
 use Rattle.table.specs.Records.{cmp, rises}
 
@@ -41,12 +40,12 @@ module _ (k : ℕ) (a b : List ℕ) where
   cmp_trans c p q = O.lex_trans (part 0 k a) (part 0 k b) (part 0 k c) p q
 
 -- an answer that is Equal, or is not
-pub equal? : {P : Type 0} (o : Order) → (o ≡ Equal → P) → ((o ≡ Equal → ⊥) → P) → P
+pub equal? : {P : Type 0} (o : Ordering) → (o ≡ Equal → P) → ((o ≡ Equal → ⊥) → P) → P
 equal? Less f g = g (λ e. let z : ◌≡◌ {A = ℕ} 0 1 = cc in omega arith)
 equal? Equal f g = f refl
 equal? Greater f g = g (λ e. let z : ◌≡◌ {A = ℕ} 0 1 = cc in omega arith)
 
-pub less_not_equal : (o : Order) → o ≡ Less → o ≡ Equal → ⊥
+pub less_not_equal : (o : Ordering) → o ≡ Less → o ≡ Equal → ⊥
 less_not_equal o p q = let z : ◌≡◌ {A = ℕ} 0 1 = cc in omega arith
 
 -- ---- two tests

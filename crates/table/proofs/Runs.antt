@@ -8,17 +8,14 @@ use native.Mathlib.Decide.{dec_lt}
 use lib.ListN.{length, take, drop, get_or, length-take, length-drop, take-append-drop}
 use lib.Seq.{get_or-take, get_or-drop}
 use Rattle.octets.specs.Order.{is_less}
-use Rattle.octets.specs.declared.Order.{Order}
-use Rattle.octets.specs.declared.Order.TheVariants.{Less, Equal, Greater}
+use Rattle.std.proofs.Common.{Ordering, Less, Equal, Greater, Result, Ok, Err}
 use Rattle.table.specs.Records.{cmp, rises, spot, place, past}
 use Rattle.table.specs.Table.{count_of, recs}
 use Rattle.table.specs.Run.{in_run, run, RunOf}
-use Rattle.table.specs.declared.Spot.{Spot}
-use Rattle.table.specs.declared.Spot.TheVariants.{At, Gap}
 use Rattle.table.proofs.Rows.{length_recs}
 use Rattle.table.proofs.Spots.{before_place, from_place, before_past, from_past, past_le}
 
-not_less : (o : Order) → (o ≡ Less → ⊥) → is_less o ≡ false
+not_less : (o : Ordering) → (o ≡ Less → ⊥) → is_less o ≡ false
 not_less Less h = absurd (h refl)
 not_less Equal h = refl
 not_less Greater h = refl
@@ -102,7 +99,7 @@ run_of s k a b t from to r h = rw (h.begins, h.ends) (run_is k a b (recs s t) r)
 
 -- ---- `past_key`, by where the key stands
 
-module _ (s k : ℕ) (t key : List ℕ) (i : ℕ) (o : Spot) (f : o ≡ spot k key (recs s t)) where
+module _ (s k : ℕ) (t key : List ℕ) (i : ℕ) (o : Result ℕ ℕ) (f : o ≡ spot k key (recs s t)) where
   abbrev past_key : ℕ → Type 0
   past_key r = (r ≡ past (spot k key (recs s t))) × (r ≤ count_of t)
 
@@ -111,8 +108,8 @@ module _ (s k : ℕ) (t key : List ℕ) (i : ℕ) (o : Spot) (f : o ≡ spot k k
       let g : r ≡ past (spot k key (recs s t)) = e ∙ ap past f in
       (g, omega (arith, past_le k key (recs s t), length_recs s t))
 
-  pub past_at : o ≡ At i → past_key (i + 1)
+  pub past_at : o ≡ Ok i → past_key (i + 1)
   past_at e = past_by (i + 1) (sym (ap past e))
 
-  pub past_gap : o ≡ Gap i → past_key i
+  pub past_gap : o ≡ Err i → past_key i
   past_gap e = past_by i (sym (ap past e ∙ omega arith))

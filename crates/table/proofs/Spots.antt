@@ -10,33 +10,30 @@ use native.Mathlib.Omega.{arith}
 use native.Mathlib.Decide.{dec_lt}
 use lib.ListN.{length, take, drop, get_or, set, length-append, length-take, length-drop, length-set}
 use Rattle.octets.specs.Order.{is_less, is_equal}
-use Rattle.octets.specs.declared.Order.{Order}
-use Rattle.octets.specs.declared.Order.TheVariants.{Less, Equal, Greater}
+use Rattle.std.proofs.Common.{Ordering, Less, Equal, Greater, Result, Ok, Err}
 use Rattle.octets.proofs.Orders as O
 use Rattle.table.specs.Records.{cmp, rises, next, spot_by, spot, place, past, look_by, look, inserted, removed, put_by, put}
 use Rattle.table.specs.Table.{Each}
-use Rattle.table.specs.declared.Spot.{Spot}
-use Rattle.table.specs.declared.Spot.TheVariants.{At, Gap}
 use Rattle.table.proofs.Keys.{cmp_self, less_turned, greater_turned, equal_turned, cmp_left, cmp_right, cmp_trans, less_not_equal, rises_head, rises_tail, rises_cons, rises_skip, rises_like, rises_at, head_below}
 use Rattle.table.proofs.Rows.{each_append, each_take, each_drop}
 
 -- ---- the spot of a key
 
-place_next : (o : Spot) → place (next o) ≡ suc (place o)
-place_next (At i) = refl
-place_next (Gap i) = refl
+place_next : (o : Result ℕ ℕ) → place (next o) ≡ suc (place o)
+place_next (Ok i) = refl
+place_next (Err i) = refl
 
 -- what a spot tells of the record there
-abbrev Stands : ℕ → List ℕ → List (List ℕ) → Spot → Type 0
-Stands k key rs (At i) = (i < length rs) × (cmp k key (get_or rs i []) ≡ Equal)
-Stands k key rs (Gap i) = (i ≤ length rs) × (i < length rs → cmp k key (get_or rs i []) ≡ Less)
+abbrev Stands : ℕ → List ℕ → List (List ℕ) → Result ℕ ℕ → Type 0
+Stands k key rs (Ok i) = (i < length rs) × (cmp k key (get_or rs i []) ≡ Equal)
+Stands k key rs (Err i) = (i ≤ length rs) × (i < length rs → cmp k key (get_or rs i []) ≡ Less)
 
 module _ (k : ℕ) (key : List ℕ) where
-  stands_step : (x : List ℕ) (rs : List (List ℕ)) (o : Order) (q : Spot) → cmp k key x ≡ o → Stands k key rs q → Stands k key (x ∷ rs) (spot_by o q)
+  stands_step : (x : List ℕ) (rs : List (List ℕ)) (o : Ordering) (q : Result ℕ ℕ) → cmp k key x ≡ o → Stands k key rs q → Stands k key (x ∷ rs) (spot_by o q)
   stands_step x rs Less q e h = (omega arith, λ l. e)
   stands_step x rs Equal q e h = (omega arith, e)
-  stands_step x rs Greater (At i) e h = (suc-le-suc h.0, h.1)
-  stands_step x rs Greater (Gap i) e h = (suc-le-suc h.0, λ l. h.1 (le_of_suc-le-suc l))
+  stands_step x rs Greater (Ok i) e h = (suc-le-suc h.0, h.1)
+  stands_step x rs Greater (Err i) e h = (suc-le-suc h.0, λ l. h.1 (le_of_suc-le-suc l))
 
   stands : (rs : List (List ℕ)) → Stands k key rs (spot k key rs)
   stands [] = (omega arith, λ l. absurd (not-suc-le-zero l))
@@ -45,16 +42,16 @@ module _ (k : ℕ) (key : List ℕ) where
   pub place_le : (rs : List (List ℕ)) → place (spot k key rs) ≤ length rs
   place_le rs = go (spot k key rs) (stands rs)
     where
-      go : (o : Spot) → Stands k key rs o → place o ≤ length rs
-      go (At i) h = omega arith
-      go (Gap i) h = h.0
+      go : (o : Result ℕ ℕ) → Stands k key rs o → place o ≤ length rs
+      go (Ok i) h = omega arith
+      go (Err i) h = h.0
 
   pub past_le : (rs : List (List ℕ)) → past (spot k key rs) ≤ length rs
   past_le rs = go (spot k key rs) (stands rs)
     where
-      go : (o : Spot) → Stands k key rs o → past o ≤ length rs
-      go (At i) h = omega arith
-      go (Gap i) h = omega arith
+      go : (o : Result ℕ ℕ) → Stands k key rs o → past o ≤ length rs
+      go (Ok i) h = omega arith
+      go (Err i) h = omega arith
 
   -- a record below the key stands before its place, one that is not does not
   pub place_below : (rs : List (List ℕ)) (m : ℕ) → rises k rs ≡ true → m < length rs → is_less (cmp k (get_or rs m []) key) ≡ true → m < place (spot k key rs)
@@ -72,7 +69,7 @@ module _ (k : ℕ) (key : List ℕ) where
   place_above [] m l e = absurd (not-suc-le-zero l)
   place_above (x ∷ rs) m l e = go (cmp k key x) refl m l e (λ i. place_above rs i)
     where
-      go : (o : Order) → cmp k key x ≡ o → (m : ℕ) → m < length (x ∷ rs) → is_less (cmp k (get_or (x ∷ rs) m []) key) ≡ false
+      go : (o : Ordering) → cmp k key x ≡ o → (m : ℕ) → m < length (x ∷ rs) → is_less (cmp k (get_or (x ∷ rs) m []) key) ≡ false
           → ((i : ℕ) → i < length rs → is_less (cmp k (get_or rs i []) key) ≡ false → place (spot k key rs) ≤ i) → place (spot_by o (spot k key rs)) ≤ m
       go Less f m l e rest = omega arith
       go Equal f m l e rest = omega arith
@@ -84,35 +81,35 @@ module _ (k : ℕ) (key : List ℕ) where
 
   -- the spot by its place, and by whether the record there has the key
   module _ (rs : List (List ℕ)) (i : ℕ) (p : i ≡ place (spot k key rs)) where
-    pub spot_end : i ≡ length rs → spot k key rs ≡ Gap i
+    pub spot_end : i ≡ length rs → spot k key rs ≡ Err i
     spot_end e = go (spot k key rs) refl (stands rs)
       where
-        go : (o : Spot) → spot k key rs ≡ o → Stands k key rs o → spot k key rs ≡ Gap i
-        go (At j) f h = let d : i ≡ j = p ∙ ap place f in absurd (omega arith)
-        go (Gap j) f h = let d : i ≡ j = p ∙ ap place f in f ∙ ap Gap (sym d)
+        go : (o : Result ℕ ℕ) → spot k key rs ≡ o → Stands k key rs o → spot k key rs ≡ Err i
+        go (Ok j) f h = let d : i ≡ j = p ∙ ap place f in absurd (omega arith)
+        go (Err j) f h = let d : i ≡ j = p ∙ ap place f in f ∙ ap Err (sym d)
 
-    pub spot_hit : is_equal (cmp k (get_or rs i []) key) ≡ true → i < length rs → spot k key rs ≡ At i
+    pub spot_hit : is_equal (cmp k (get_or rs i []) key) ≡ true → i < length rs → spot k key rs ≡ Ok i
     spot_hit e l = go (spot k key rs) refl (stands rs)
       where
-        go : (o : Spot) → spot k key rs ≡ o → Stands k key rs o → spot k key rs ≡ At i
-        go (At j) f h = let d : i ≡ j = p ∙ ap place f in f ∙ ap At (sym d)
-        go (Gap j) f h =
+        go : (o : Result ℕ ℕ) → spot k key rs ≡ o → Stands k key rs o → spot k key rs ≡ Ok i
+        go (Ok j) f h = let d : i ≡ j = p ∙ ap place f in f ∙ ap Ok (sym d)
+        go (Err j) f h =
             let d : i ≡ j = p ∙ ap place f in
             let g : cmp k key (get_or rs i []) ≡ Less = rw d (h.1 (omega arith)) in
             let q : cmp k key (get_or rs i []) ≡ Equal = equal_turned k (get_or rs i []) key (O.is_equal_true (cmp k (get_or rs i []) key) e) in
             absurd (less_not_equal (cmp k key (get_or rs i [])) g q)
 
-    pub spot_miss : is_equal (cmp k (get_or rs i []) key) ≡ false → spot k key rs ≡ Gap i
+    pub spot_miss : is_equal (cmp k (get_or rs i []) key) ≡ false → spot k key rs ≡ Err i
     spot_miss e = go (spot k key rs) refl (stands rs)
       where
-        go : (o : Spot) → spot k key rs ≡ o → Stands k key rs o → spot k key rs ≡ Gap i
-        go (At j) f h =
+        go : (o : Result ℕ ℕ) → spot k key rs ≡ o → Stands k key rs o → spot k key rs ≡ Err i
+        go (Ok j) f h =
             let d : i ≡ j = p ∙ ap place f in
             let q : cmp k (get_or rs i []) key ≡ Equal = equal_turned k key (get_or rs i []) (rw d h.1) in
             let t : is_equal (cmp k (get_or rs i []) key) ≡ true = ap is_equal q in
             let z : ◌≡◌ {A = ℕ} 0 1 = cc in
             absurd (omega arith)
-        go (Gap j) f h = let d : i ≡ j = p ∙ ap place f in f ∙ ap Gap (sym d)
+        go (Err j) f h = let d : i ≡ j = p ∙ ap place f in f ∙ ap Err (sym d)
 
 pub look_like : (k : ℕ) (a b : List ℕ) (rs : List (List ℕ)) → cmp k a b ≡ Equal → look k a rs ≡ look k b rs
 look_like k a b [] e = refl
@@ -121,43 +118,43 @@ look_like k a b (x ∷ rs) e = rw (cmp_left k a b e x, look_like k a b rs e)
 -- ---- `put`, by where the key stands
 
 -- what p, the records after a put of r into rs, is
-abbrev Put : List ℕ → List (List ℕ) → List (List ℕ) → Spot → Type 0
-Put r rs p (At i) = (i < length rs) × (p ≡ set rs i r)
-Put r rs p (Gap i) = (i ≤ length rs) × (p ≡ inserted i r rs)
+abbrev Put : List ℕ → List (List ℕ) → List (List ℕ) → Result ℕ ℕ → Type 0
+Put r rs p (Ok i) = (i < length rs) × (p ≡ set rs i r)
+Put r rs p (Err i) = (i ≤ length rs) × (p ≡ inserted i r rs)
 
-put_step : (r x : List ℕ) (rs p : List (List ℕ)) (o : Order) (q : Spot) → Put r rs p q → Put r (x ∷ rs) (put_by o r x rs p) (spot_by o q)
+put_step : (r x : List ℕ) (rs p : List (List ℕ)) (o : Ordering) (q : Result ℕ ℕ) → Put r rs p q → Put r (x ∷ rs) (put_by o r x rs p) (spot_by o q)
 put_step r x rs p Less q h = (omega arith, refl)
 put_step r x rs p Equal q h = (omega arith, refl)
-put_step r x rs p Greater (At i) h = (suc-le-suc h.0, ap (λ (l : List (List ℕ)). x ∷ l) h.1)
-put_step r x rs p Greater (Gap i) h = (suc-le-suc h.0, ap (λ (l : List (List ℕ)). x ∷ l) h.1)
+put_step r x rs p Greater (Ok i) h = (suc-le-suc h.0, ap (λ (l : List (List ℕ)). x ∷ l) h.1)
+put_step r x rs p Greater (Err i) h = (suc-le-suc h.0, ap (λ (l : List (List ℕ)). x ∷ l) h.1)
 
 put_is : (k : ℕ) (r : List ℕ) (rs : List (List ℕ)) → Put r rs (put k r rs) (spot k r rs)
 put_is k r [] = (omega arith, refl)
 put_is k r (x ∷ rs) = put_step r x rs (put k r rs) (cmp k r x) (spot k r rs) (put_is k r rs)
 
 module _ (k : ℕ) (r : List ℕ) (rs : List (List ℕ)) (i : ℕ) where
-  found : spot k r rs ≡ At i → Put r rs (put k r rs) (At i)
+  found : spot k r rs ≡ Ok i → Put r rs (put k r rs) (Ok i)
   found e = rw e at (put_is k r rs)
 
-  missed : spot k r rs ≡ Gap i → Put r rs (put k r rs) (Gap i)
+  missed : spot k r rs ≡ Err i → Put r rs (put k r rs) (Err i)
   missed e = rw e at (put_is k r rs)
 
-  pub at_lt : spot k r rs ≡ At i → i < length rs
+  pub at_lt : spot k r rs ≡ Ok i → i < length rs
   at_lt e = (found e).0
 
-  pub gap_le : spot k r rs ≡ Gap i → i ≤ length rs
+  pub gap_le : spot k r rs ≡ Err i → i ≤ length rs
   gap_le e = (missed e).0
 
-  pub put_at : spot k r rs ≡ At i → put k r rs ≡ set rs i r
+  pub put_at : spot k r rs ≡ Ok i → put k r rs ≡ set rs i r
   put_at e = (found e).1
 
-  pub put_gap : spot k r rs ≡ Gap i → put k r rs ≡ inserted i r rs
+  pub put_gap : spot k r rs ≡ Err i → put k r rs ≡ inserted i r rs
   put_gap e = (missed e).1
 
-  pub length_put_at : spot k r rs ≡ At i → length (put k r rs) ≡ length rs
+  pub length_put_at : spot k r rs ≡ Ok i → length (put k r rs) ≡ length rs
   length_put_at e = rw (put_at e) (length-set rs i r)
 
-  pub length_put_gap : spot k r rs ≡ Gap i → length (put k r rs) ≡ length rs + 1
+  pub length_put_gap : spot k r rs ≡ Err i → length (put k r rs) ≡ length rs + 1
   length_put_gap e =
       let h = gap_le e in
       rw (put_gap e) (simp (length-append, length-drop) (omega (arith, length-take i rs)))
@@ -165,11 +162,11 @@ module _ (k : ℕ) (r : List ℕ) (rs : List (List ℕ)) (i : ℕ) where
 pub length_put_le : (k : ℕ) (r : List ℕ) (rs : List (List ℕ)) → length (put k r rs) ≤ length rs + 1
 length_put_le k r rs = go (spot k r rs) refl
   where
-    go : (o : Spot) → spot k r rs ≡ o → length (put k r rs) ≤ length rs + 1
-    go (At i) e = omega (arith, length_put_at k r rs i e)
-    go (Gap i) e = omega (arith, length_put_gap k r rs i e)
+    go : (o : Result ℕ ℕ) → spot k r rs ≡ o → length (put k r rs) ≤ length rs + 1
+    go (Ok i) e = omega (arith, length_put_at k r rs i e)
+    go (Err i) e = omega (arith, length_put_gap k r rs i e)
 
-each_step : (s : ℕ) (r x : List ℕ) (rs p : List (List ℕ)) (o : Order) → length r ≡ s → Each s (x ∷ rs) → Each s p → Each s (put_by o r x rs p)
+each_step : (s : ℕ) (r x : List ℕ) (rs p : List (List ℕ)) (o : Ordering) → length r ≡ s → Each s (x ∷ rs) → Each s p → Each s (put_by o r x rs p)
 each_step s r x rs p Less e h g = (e, h)
 each_step s r x rs p Equal e h g = (e, h.1)
 each_step s r x rs p Greater e h g = (h.0, g)
@@ -185,7 +182,7 @@ rises_after : (k : ℕ) (r x : List ℕ) (rs : List (List ℕ)) → cmp k x r �
 rises_after k r x [] l h = rises_cons k x r [] l refl
 rises_after k r x (y ∷ rs) l h = go (cmp k r y) refl (λ g. rises_after k r y rs g (rises_tail k x (y ∷ rs) h))
   where
-    go : (o : Order) → cmp k r y ≡ o → (cmp k y r ≡ Less → rises k (y ∷ put k r rs) ≡ true) → rises k (x ∷ put_by o r y rs (put k r rs)) ≡ true
+    go : (o : Ordering) → cmp k r y ≡ o → (cmp k y r ≡ Less → rises k (y ∷ put k r rs) ≡ true) → rises k (x ∷ put_by o r y rs (put k r rs)) ≡ true
     go Less e rest = rises_cons k x r (y ∷ rs) l (rises_cons k r y rs e (rises_tail k x (y ∷ rs) h))
     go Equal e rest = rises_cons k x r rs l (rises_like k r y rs e (rises_tail k x (y ∷ rs) h))
     go Greater e rest = rises_cons k x y (put k r rs) (rises_head k x y rs h) (rest (greater_turned k r y e))
@@ -194,14 +191,14 @@ pub rises_put : (k : ℕ) (r : List ℕ) (rs : List (List ℕ)) → rises k rs �
 rises_put k r [] h = refl
 rises_put k r (x ∷ rs) h = go (cmp k r x) refl
   where
-    go : (o : Order) → cmp k r x ≡ o → rises k (put_by o r x rs (put k r rs)) ≡ true
+    go : (o : Ordering) → cmp k r x ≡ o → rises k (put_by o r x rs (put k r rs)) ≡ true
     go Less e = rises_cons k r x rs e h
     go Equal e = rises_like k r x rs e h
     go Greater e = rises_after k r x rs (greater_turned k r x e) h
 
 -- ---- what is found after a put
 
-skip : (o : Order) (x : List ℕ) (q : Option (List ℕ)) → (o ≡ Equal → ⊥) → look_by o x q ≡ q
+skip : (o : Ordering) (x : List ℕ) (q : Option (List ℕ)) → (o ≡ Equal → ⊥) → look_by o x q ≡ q
 skip Less x q h = refl
 skip Equal x q h = absurd (h refl)
 skip Greater x q h = refl
@@ -210,7 +207,7 @@ pub look_put_same : (k : ℕ) (r : List ℕ) (rs : List (List ℕ)) → look k r
 look_put_same k r [] = rw (cmp_self k r [])
 look_put_same k r (x ∷ rs) = go (cmp k r x) refl (look_put_same k r rs)
   where
-    go : (o : Order) → cmp k r x ≡ o → look k r (put k r rs) ≡ some r → look k r (put_by o r x rs (put k r rs)) ≡ some r
+    go : (o : Ordering) → cmp k r x ≡ o → look k r (put k r rs) ≡ some r → look k r (put_by o r x rs (put k r rs)) ≡ some r
     go Less e rest = rw (cmp_self k r [])
     go Equal e rest = rw (cmp_self k r [])
     go Greater e rest = rw e rest
@@ -219,7 +216,7 @@ pub look_put_other : (k : ℕ) (key r : List ℕ) (rs : List (List ℕ)) → (cm
 look_put_other k key r [] n = skip (cmp k key r) r none n
 look_put_other k key r (x ∷ rs) n = go (cmp k r x) refl (look_put_other k key r rs n)
   where
-    go : (o : Order) → cmp k r x ≡ o → look k key (put k r rs) ≡ look k key rs → look k key (put_by o r x rs (put k r rs)) ≡ look k key (x ∷ rs)
+    go : (o : Ordering) → cmp k r x ≡ o → look k key (put k r rs) ≡ look k key rs → look k key (put_by o r x rs (put k r rs)) ≡ look k key (x ∷ rs)
     go Less e rest = skip (cmp k key r) r (look k key (x ∷ rs)) n
     go Equal e rest =
         skip (cmp k key r) r (look k key rs) n ∙ sym (skip (cmp k key x) x (look k key rs) (λ f. n (cmp_right k r x e key ∙ f)))
@@ -227,21 +224,21 @@ look_put_other k key r (x ∷ rs) n = go (cmp k r x) refl (look_put_other k key 
 
 -- ---- what is found is what stands at the spot
 
-abbrev Seen : List (List ℕ) → Option (List ℕ) → Spot → Type 0
-Seen rs q (At i) = q ≡ some (get_or rs i [])
-Seen rs q (Gap i) = Unit {0}
+abbrev Seen : List (List ℕ) → Option (List ℕ) → Result ℕ ℕ → Type 0
+Seen rs q (Ok i) = q ≡ some (get_or rs i [])
+Seen rs q (Err i) = Unit {0}
 
-seen_step : (x : List ℕ) (rs : List (List ℕ)) (q : Option (List ℕ)) (o : Order) (p : Spot) → Seen rs q p → Seen (x ∷ rs) (look_by o x q) (spot_by o p)
+seen_step : (x : List ℕ) (rs : List (List ℕ)) (q : Option (List ℕ)) (o : Ordering) (p : Result ℕ ℕ) → Seen rs q p → Seen (x ∷ rs) (look_by o x q) (spot_by o p)
 seen_step x rs q Less p h = tt
 seen_step x rs q Equal p h = refl
-seen_step x rs q Greater (At i) h = h
-seen_step x rs q Greater (Gap i) h = tt
+seen_step x rs q Greater (Ok i) h = h
+seen_step x rs q Greater (Err i) h = tt
 
 seen_is : (k : ℕ) (key : List ℕ) (rs : List (List ℕ)) → Seen rs (look k key rs) (spot k key rs)
 seen_is k key [] = tt
 seen_is k key (x ∷ rs) = seen_step x rs (look k key rs) (cmp k key x) (spot k key rs) (seen_is k key rs)
 
-pub look_at : (k : ℕ) (key : List ℕ) (rs : List (List ℕ)) (i : ℕ) → spot k key rs ≡ At i → look k key rs ≡ some (get_or rs i [])
+pub look_at : (k : ℕ) (key : List ℕ) (rs : List (List ℕ)) (i : ℕ) → spot k key rs ≡ Ok i → look k key rs ≡ some (get_or rs i [])
 look_at k key rs i e = rw e at (seen_is k key rs)
 
 -- a key below the first is not there
@@ -249,21 +246,21 @@ look_below : (k : ℕ) (key x : List ℕ) (rs : List (List ℕ)) → rises k (x 
 look_below k key x [] h l = rw l
 look_below k key x (y ∷ rs) h l =
     let m : cmp k key y ≡ Less = cmp_trans k key x y l (rises_head k x y rs h) in
-    ap (λ (o : Order). look_by o x (look k key (y ∷ rs))) l ∙ look_below k key y rs (rises_tail k x (y ∷ rs) h) m
+    ap (λ (o : Ordering). look_by o x (look k key (y ∷ rs))) l ∙ look_below k key y rs (rises_tail k x (y ∷ rs) h) m
 
-pub look_gap : (k : ℕ) (key : List ℕ) (rs : List (List ℕ)) (i : ℕ) → rises k rs ≡ true → spot k key rs ≡ Gap i → look k key rs ≡ none
+pub look_gap : (k : ℕ) (key : List ℕ) (rs : List (List ℕ)) (i : ℕ) → rises k rs ≡ true → spot k key rs ≡ Err i → look k key rs ≡ none
 look_gap k key [] i h e = refl
 look_gap k key (x ∷ rs) i h e = go (cmp k key x) refl (spot k key rs) refl (λ j. look_gap k key rs j (rises_tail k x rs h))
   where
-    go : (o : Order) → cmp k key x ≡ o → (p : Spot) → spot k key rs ≡ p → ((j : ℕ) → spot k key rs ≡ Gap j → look k key rs ≡ none) → look k key (x ∷ rs) ≡ none
+    go : (o : Ordering) → cmp k key x ≡ o → (p : Result ℕ ℕ) → spot k key rs ≡ p → ((j : ℕ) → spot k key rs ≡ Err j → look k key rs ≡ none) → look k key (x ∷ rs) ≡ none
     go Less f p g rest = look_below k key x rs h f
     go Equal f p g rest =
-        let d : spot k key (x ∷ rs) ≡ At 0 = rw f in
+        let d : spot k key (x ∷ rs) ≡ Ok 0 = rw f in
         cc
-    go Greater f (At j) g rest =
-        let d : spot k key (x ∷ rs) ≡ At (suc j) = rw (f, g) in
+    go Greater f (Ok j) g rest =
+        let d : spot k key (x ∷ rs) ≡ Ok (suc j) = rw (f, g) in
         cc
-    go Greater f (Gap j) g rest = rw f (rest j g)
+    go Greater f (Err j) g rest = rw f (rest j g)
 
 -- ---- `removed`
 
@@ -321,13 +318,13 @@ from_place k key rs j h l m e = omega (arith, place_below k key rs j h m (ap is_
 pub before_past : (k : ℕ) (key : List ℕ) (rs : List (List ℕ)) (j : ℕ) → j < past (spot k key rs) → cmp k key (get_or rs j []) ≡ Less → ⊥
 before_past k key rs j l e = go (spot k key rs) refl (stands k key rs) (dec_lt j (place (spot k key rs)))
   where
-    go : (o : Spot) → spot k key rs ≡ o → Stands k key rs o → Dec (j < place (spot k key rs)) → ⊥
+    go : (o : Result ℕ ℕ) → spot k key rs ≡ o → Stands k key rs o → Dec (j < place (spot k key rs)) → ⊥
     go o f h (yes m) =
         let g : cmp k key (get_or rs j []) ≡ Greater = less_turned k (get_or rs j []) key (before_place k key rs j m) in
         let z : ◌≡◌ {A = ℕ} 0 1 = cc in
         omega arith
-    go (Gap i) f h (no m) = m (omega (arith, ap past f, ap place f))
-    go (At i) f h (no m) =
+    go (Err i) f h (no m) = m (omega (arith, ap past f, ap place f))
+    go (Ok i) f h (no m) =
         let d : j ≡ i = omega (arith, ap past f, ap place f) in
         less_not_equal (cmp k key (get_or rs j [])) e (rw d h.1)
 
@@ -341,11 +338,11 @@ from_past k key rs j h l m = go (spot k key rs) refl (stands k key rs)
         let d : i ≡ j = omega arith in
         rw d at c
 
-    go : (o : Spot) → spot k key rs ≡ o → Stands k key rs o → cmp k key (get_or rs j []) ≡ Less
-    go (At i) f s =
+    go : (o : Result ℕ ℕ) → spot k key rs ≡ o → Stands k key rs o → cmp k key (get_or rs j []) ≡ Less
+    go (Ok i) f s =
         let n : i < j = omega (arith, ap past f) in
         cmp_left k key (get_or rs i []) s.1 (get_or rs j []) ∙ rises_at k rs i j h n m
-    go (Gap i) f s =
+    go (Err i) f s =
         let b : i ≤ j = omega (arith, ap past f) in
         let n : i < length rs = omega arith in
         later i (dec_lt i j) b n (s.1 n)

@@ -1,15 +1,13 @@
 -- Records in the order of their keys: a key is a record's first k bytes.
-use Rattle.std.specs.Prelude.{Bool, true, ◌&&◌, List, [], ◌∷◌, ◌++◌, ℕ, suc, ◌+◌, take, drop}
+use Rattle.std.specs.Prelude.{Bool, true, ◌&&◌, List, [], ◌∷◌, ◌++◌, ℕ, suc, ◌+◌, take, drop, Result, Ok, Err}
 use Rattle.std.proofs.Math.Option.{Option, some, none}
 use Rattle.octets.specs.Bytes.{part}
 use Rattle.octets.specs.Order.{lex, is_less}
-use Rattle.octets.specs.declared.Order.{Order}
-use Rattle.octets.specs.declared.Order.TheVariants.{Less, Equal, Greater}
-use Rattle.table.specs.declared.Spot.{Spot}
-use Rattle.table.specs.declared.Spot.TheVariants.{At, Gap}
+use Rattle.std.specs.declared.cmp.Ordering.{Ordering}
+use Rattle.std.specs.declared.cmp.Ordering.TheVariants.{Less, Equal, Greater}
 
 -- how the keys of two records stand, or a key and that of a record
-abbrev pub cmp : ℕ → List ℕ → List ℕ → Order
+abbrev pub cmp : ℕ → List ℕ → List ℕ → Ordering
 cmp k a b = lex (part 0 k a) (part 0 k b)
 
 -- the keys strictly rise
@@ -21,38 +19,38 @@ rises k (x ∷ y ∷ rs) = is_less (cmp k x y) && rises k (y ∷ rs)
 -- ---- where a key stands
 
 -- the spot, one record further
-abbrev pub next : Spot → Spot
-next (At i) = At (suc i)
-next (Gap i) = Gap (suc i)
+abbrev pub next : Result ℕ ℕ → Result ℕ ℕ
+next (Ok i) = Ok (suc i)
+next (Err i) = Err (suc i)
 
 -- the spot by how the key and the first record's stand, and by the spot among the others
-abbrev pub spot_by : Order → Spot → Spot
-spot_by Less o = Gap 0
-spot_by Equal o = At 0
+abbrev pub spot_by : Ordering → Result ℕ ℕ → Result ℕ ℕ
+spot_by Less o = Err 0
+spot_by Equal o = Ok 0
 spot_by Greater o = next o
 
 -- where the record of that key stands, or where it would
-abbrev pub spot : ℕ → List ℕ → List (List ℕ) → Spot
-spot k key [] = Gap 0
+abbrev pub spot : ℕ → List ℕ → List (List ℕ) → Result ℕ ℕ
+spot k key [] = Err 0
 spot k key (x ∷ rs) = spot_by (cmp k key x) (spot k key rs)
 
 -- the first place at or after the key
-abbrev pub place : Spot → ℕ
-place (At i) = i
-place (Gap i) = i
+abbrev pub place : Result ℕ ℕ → ℕ
+place (Ok i) = i
+place (Err i) = i
 
 -- how many records have the key: 1 or 0
-abbrev pub hits : Spot → ℕ
-hits (At i) = 1
-hits (Gap i) = 0
+abbrev pub hits : Result ℕ ℕ → ℕ
+hits (Ok i) = 1
+hits (Err i) = 0
 
 -- the first place after the key
-abbrev pub past : Spot → ℕ
+abbrev pub past : Result ℕ ℕ → ℕ
 past o = place o + hits o
 
 -- ---- the record of a key
 
-abbrev pub look_by : Order → List ℕ → Option (List ℕ) → Option (List ℕ)
+abbrev pub look_by : Ordering → List ℕ → Option (List ℕ) → Option (List ℕ)
 look_by Less x o = o
 look_by Equal x o = some x
 look_by Greater x o = o
@@ -73,7 +71,7 @@ abbrev pub removed : ℕ → List (List ℕ) → List (List ℕ)
 removed i rs = take i rs ++ drop (suc i) rs
 
 -- by how r and the first record stand, and by the others after a put of r
-abbrev pub put_by : Order → List ℕ → List ℕ → List (List ℕ) → List (List ℕ) → List (List ℕ)
+abbrev pub put_by : Ordering → List ℕ → List ℕ → List (List ℕ) → List (List ℕ) → List (List ℕ)
 put_by Less r x rs later = r ∷ x ∷ rs
 put_by Equal r x rs later = r ∷ rs
 put_by Greater r x rs later = x ∷ later

@@ -7,26 +7,14 @@ ghost use Rattle.table.specs.Records.{rises, spot, place, past, inserted, remove
 ghost use Rattle.table.specs.Table.{runs, count_of, cap_of, recs, laid, well_ordered, holds, fits};
 ghost use Rattle.table.specs.Run.{RunOf};
 
-// Where a key stands: at a record, or in the gap before one.
-#[derive(Clone, Copy)]
-pub enum Spot {
-    At(usize),
-    Gap(usize),
-}
-
 // How many records t can hold.
+// Kept: stride and klen as numbers, here and below, and no struct of both: five of these functions want the stride alone, callers have both as constants of a record, and each clause would only be longer by a field's path.
 pub fn capacity(t: &[u8], stride: usize) -> usize
     requires { 0 < stride }
     ensures { result ≡ cap_of stride t.now }
 {
-    if t.len() < 2 {
-        return 0;
-    }
-    let n = (t.len() - 2) / stride;
-    if 65535 < n {
-        return 65535;
-    }
-    n
+    let n = t.len().saturating_sub(2) / stride;
+    n.min(65535)
 }
 
 // The count of a table.
@@ -42,15 +30,12 @@ fn in_order(t: &[u8], stride: usize, klen: usize, n: usize) -> bool
     requires { (klen ≤ stride) × (2 + n * stride ≤ length t.now) }
     ensures { result ≡ rises klen (runs n stride 2 t.now) }
 {
-    let mut i: usize = 1;
-    let mut at: usize = 2;
-    while i < n {
-        let next = at + stride;
+    for i in 1..n {
+        let next = 2 + i * stride;
+        let at = next - stride;
         if !octets::before(t, at, t, next, klen) {
             return false;
         }
-        at = next;
-        i += 1;
     }
     true
 }
@@ -76,8 +61,9 @@ pub fn seek_in(t: &[u8], stride: usize, klen: usize, n: usize, key: &[u8]) -> us
     requires t_value { rises klen (runs n stride 2 t.now) ≡ true }
     ensures { (result ≡ place (spot klen key.now (runs n stride 2 t.now))) × (result ≤ n) }
 {
-    let mut low: usize = 0;
+    let mut low = 0;
     let mut high = n;
+    // Kept: a search that halves, over bytes and not over a slice of records, which std's `partition_point` would want.
     while low < high {
         let middle = low + (high - low) / 2;
         if octets::before(t, 2 + middle * stride, key, 0, klen) {
@@ -90,23 +76,23 @@ pub fn seek_in(t: &[u8], stride: usize, klen: usize, n: usize, key: &[u8]) -> us
 }
 
 // Where a key stands among the first n records.
-pub fn find_in(t: &[u8], stride: usize, klen: usize, n: usize, key: &[u8]) -> Spot
+pub fn find_in(t: &[u8], stride: usize, klen: usize, n: usize, key: &[u8]) -> Result<usize, usize>
     requires klen_le_stride { (klen ≤ stride) × (klen ≤ length key.now) × (2 + n * stride ≤ length t.now) × (n < 65536) }
     requires t_value { rises klen (runs n stride 2 t.now) ≡ true }
     ensures { result ≡ spot klen key.now (runs n stride 2 t.now) }
 {
     let i = seek_in(t, stride, klen, n, key);
     if i == n {
-        return Spot::Gap(i);
+        return Err(i);
     }
     if octets::same(t, 2 + i * stride, key, 0, klen) {
-        return Spot::At(i);
+        return Ok(i);
     }
-    Spot::Gap(i)
+    Err(i)
 }
 
 // Where a key stands.
-pub fn find(t: &[u8], stride: usize, klen: usize, key: &[u8]) -> Spot
+pub fn find(t: &[u8], stride: usize, klen: usize, key: &[u8]) -> Result<usize, usize>
     requires stride_nonzero { (0 < stride) × (klen ≤ stride) × (klen ≤ length key.now) }
     requires t_value { well_ordered stride klen t.now ≡ true }
     ensures { result ≡ spot klen key.now (recs stride t.now) }
@@ -161,8 +147,8 @@ pub fn put(t: &mut [u8], stride: usize, klen: usize, rec: &[u8])
     ensures { t.new ≡ laid (put klen rec.now (recs stride t.old)) t.old }
 {
     match find(t, stride, klen, rec) {
-        Spot::At(i) => overwrite(t, stride, i, rec),
-        Spot::Gap(i) => insert(t, stride, i, rec),
+        Ok(i) => overwrite(t, stride, i, rec),
+        Err(i) => insert(t, stride, i, rec),
     }
 }
 
@@ -181,8 +167,8 @@ pub fn room(t: &[u8], stride: usize, klen: usize, rec: &[u8]) -> bool
     ensures { result ≡ fits stride (put klen rec.now (recs stride t.now)) t.now }
 {
     match find(t, stride, klen, rec) {
-        Spot::At(_) => true,
-        Spot::Gap(_) => room_for(t, stride, 1),
+        Ok(_) => true,
+        Err(_) => room_for(t, stride, 1),
     }
 }
 
@@ -193,8 +179,8 @@ pub fn past_key(t: &[u8], stride: usize, klen: usize, key: &[u8]) -> usize
     ensures { (result ≡ past (spot klen key.now (recs stride t.now))) × (result ≤ count_of t.now) }
 {
     match find(t, stride, klen, key) {
-        Spot::At(i) => i + 1,
-        Spot::Gap(i) => i,
+        Ok(i) => i + 1,
+        Err(i) => i,
     }
 }
 

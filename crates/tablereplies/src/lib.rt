@@ -7,7 +7,9 @@ ghost use Rattle.arguments.specs.Replies.{value_or, yes_or_no};
 ghost use Rattle.tablereplies.specs.Records.{volume_put, tagged_put};
 
 use arguments::Reply;
-use commitcalls::{FoundAnswer, MaybeCountAnswer};
+use arguments::replies::refused;
+use basics::page_count::PageCount;
+use basics::refusal::Refusal;
 use layout::VOLUME;
 use tagcalls::TaggedAnswer;
 use volumebytes::put_out;
@@ -46,26 +48,26 @@ pub fn put_tagged(a: TaggedAnswer, vid: &mut [u8; 16]) -> Reply
 }
 
 // Whether a record was found.
-pub fn found_or_not(a: FoundAnswer) -> Reply
+pub fn found_or_not(a: Result<bool, Refusal>) -> Reply
     ensures { result ≡ yes_or_no (found_says a) }
 {
     match a {
-        FoundAnswer::Refused(code) => Reply { code, found: 0 },
-        FoundAnswer::Found => Reply { code: 0, found: 1 },
-        FoundAnswer::Nothing => Reply { code: 0, found: 0 },
+        Err(refusal) => refused(refusal),
+        Ok(true) => Reply { code: 0, found: 1 },
+        Ok(false) => Reply { code: 0, found: 0 },
     }
 }
 
 // A page count or nothing.
-pub fn put_maybe_count(a: MaybeCountAnswer, out: &mut u32) -> Reply
+pub fn put_maybe_count(a: Result<Option<PageCount>, Refusal>, out: &mut u32) -> Reply
     ensures { (result, out.new) ≡ value_or (λ m. m) out.old (maybe_count_says a) }
 {
     match a {
-        MaybeCountAnswer::Refused(code) => Reply { code, found: 0 },
-        MaybeCountAnswer::Count(n) => {
+        Err(refusal) => refused(refusal),
+        Ok(Some(n)) => {
             *out = n.0;
             Reply { code: 0, found: 1 }
         }
-        MaybeCountAnswer::Nothing => Reply { code: 0, found: 0 },
+        Ok(None) => Reply { code: 0, found: 0 },
     }
 }

@@ -1,6 +1,6 @@
 -- The ends of the calls on tags: for each way out of the code, the rule's answer. Every rule asks 20 and then 1 (`asking`); once the bytes are a table and the name has a
 -- name's length, what is left is what the lookup found, the removal, or the store where it fits.
-use Rattle.std.proofs.Common.{◌≡◌, ℕ, ◌<◌, ◌≤◌, Bool, true, false, ◌&&◌, leb, List, length, sym, ap, ◌∙◌, ap₂, arith, le-leb}
+use Rattle.std.proofs.Common.{◌≡◌, ℕ, ◌<◌, ◌≤◌, Bool, true, false, ◌&&◌, leb, List, length, sym, ap, ◌∙◌, ap₂, arith, le-leb, Result, Ok, Err}
 use mathlib.Core.Option.{Option, none, some, map}
 use borrow.Author.Tests.{lt-leb}
 use Rattle.basics.specs.Answers.{Answer, refused, done, ask, ◌>>◌}
@@ -11,8 +11,6 @@ use Rattle.rules.specs.Forms.{name_length}
 use Rattle.rules.specs.Tables.{Table, fits, store, remove, same_id, get_tag, tags_formed}
 use Rattle.rules.specs.Reads.{tagged, tag_read, tag_exists, tag_delete, tag_replace}
 use Rattle.rules.proofs.TableLaws.{and_both}
-use Rattle.table.specs.declared.Spot.{Spot}
-use Rattle.table.specs.declared.Spot.TheVariants.{At, Gap}
 use Rattle.layout.specs.Lent.{lent}
 use Rattle.layout.specs.Records.{tag_of}
 use Rattle.layout.specs.Tables.{tags_in, tags_ok}
@@ -39,20 +37,20 @@ name_fits name n h = sym (and_both (le-leb 1 (length name) (omega arith)) (le-le
 
 -- ---- what was found
 
-module _ (t : List ℕ) (name : Name) (o : Spot) (i : ℕ) (says : at_spot o (tags_in t).rows ≡ get_tag (tags_in t) name) where
+module _ (t : List ℕ) (name : Name) (o : Result ℕ ℕ) (i : ℕ) (says : at_spot o (tags_in t).rows ≡ get_tag (tags_in t) name) where
   -- the tag at the spot that was found
-  pub here : o ≡ At i → nth i (tags_in t).rows ≡ get_tag (tags_in t) name
-  here a = ap (λ (p : Spot). at_spot p (tags_in t).rows) (sym a) ∙ says
+  pub here : o ≡ Ok i → nth i (tags_in t).rows ≡ get_tag (tags_in t) name
+  here a = ap (λ (p : Result ℕ ℕ). at_spot p (tags_in t).rows) (sym a) ∙ says
 
   -- in a gap there is none
-  pub nowhere : o ≡ Gap i → get_tag (tags_in t) name ≡ none
-  nowhere a = sym says ∙ ap (λ (p : Spot). at_spot p (tags_in t).rows) a
+  pub nowhere : o ≡ Err i → get_tag (tags_in t) name ≡ none
+  nowhere a = sym says ∙ ap (λ (p : Result ℕ ℕ). at_spot p (tags_in t).rows) a
 
   -- the volume that the tag there names, as the answer
-  pub names : o ≡ At i → (vid : Id) → map (λ (g : Tag). g.vid) (nth i (tags_in t).rows) ≡ some vid → tagged_answer (done (some vid)) ≡ tagged_answer (done (tagged (tags_in t) name))
+  pub names : o ≡ Ok i → (vid : Id) → map (λ (g : Tag). g.vid) (nth i (tags_in t).rows) ≡ some vid → tagged_answer (done (some vid)) ≡ tagged_answer (done (tagged (tags_in t) name))
   names a vid e = ap (λ (x : Option Id). tagged_answer (done x)) (sym e ∙ ap (map (λ (g : Tag). g.vid)) (here a))
 
-  pub names_none : o ≡ Gap i → tagged_answer (refused 0) ≡ tagged_answer (done (tagged (tags_in t) name))
+  pub names_none : o ≡ Err i → tagged_answer (refused 0) ≡ tagged_answer (done (tagged (tags_in t) name))
   names_none a = ap (λ (x : Option Tag). tagged_answer (done (map (λ (g : Tag). g.vid) x))) (sym (nowhere a))
 
 -- ---- 20, 1

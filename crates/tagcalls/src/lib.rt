@@ -12,8 +12,7 @@ ghost use Rattle.layout.specs.Lent.{lent, after};
 ghost use Rattle.tagcalls.specs.Says.{tagged_answer, earlier};
 
 use basics::id::VolumeId;
-use pagecalls::YesAnswer;
-use table::Spot;
+use basics::refusal::Refusal;
 use tags::{find_tag, put_tag, remove_tag, room_for_tag, tagged_at, tags_formed};
 
 // Under 0 a volume that was found, or nothing; else the number of a refusal. Where there is no volume its identifier is zeros.
@@ -54,7 +53,7 @@ fn named_volume(tags: &[u8], name: &[u8]) -> TaggedAnswer
     requires { (tags_ok tags.now ≡ true) × (name_length name.now ≡ true) }
     ensures { result ≡ tagged_answer (done (tagged (tags_in tags.now) name.now)) }
 {
-    let Spot::At(i) = find_tag(tags, name) else {
+    let Ok(i) = find_tag(tags, name) else {
         return no_volume(0);
     };
     let vid = tagged_at(tags, i);
@@ -79,18 +78,18 @@ pub fn tag_read(tags: &[u8], name: &[u8]) -> TaggedAnswer
 }
 
 // Whether a tag is stored: 20, 1.
-pub fn tag_exists(tags: &[u8], name: &[u8]) -> YesAnswer
+pub fn tag_exists(tags: &[u8], name: &[u8]) -> Result<bool, Refusal>
     ensures { yes_says result ≡ lent (tags_ok tags.now) (tag_exists (tags_in tags.now) name.now) }
 {
     if !tags_formed(tags) {
-        return YesAnswer::Refused(20);
+        return Err(Refusal::TableForm);
     }
     if !is_name(name) {
-        return YesAnswer::Refused(1);
+        return Err(Refusal::Zero);
     }
     match find_tag(tags, name) {
-        Spot::At(_) => YesAnswer::Yes,
-        Spot::Gap(_) => YesAnswer::No,
+        Ok(_) => Ok(true),
+        Err(_) => Ok(false),
     }
 }
 

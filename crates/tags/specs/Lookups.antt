@@ -1,7 +1,6 @@
 -- What a lookup among tags answers.
-use Rattle.std.specs.Prelude.{ℕ, List}
+use Rattle.std.specs.Prelude.{ℕ, List, Result}
 use Rattle.basics.specs.Orders.{bytes}
-use Rattle.table.specs.declared.Spot.{Spot}
 use Rattle.rules.specs.Records.{Name, tag_key}
 use Rattle.layout.specs.Codecs.{Codec, reserved, padded}
 use Rattle.layout.specs.Records.{tag_bytes}
@@ -12,5 +11,5 @@ abbrev pub key_bytes : Codec Name
 key_bytes = reserved (padded 32)
 
 -- the spot of a name in bytes t: the place of its key, where the tag is that the rules find
-abbrev pub Found : List ℕ → Name → Spot → Type 0
+abbrev pub Found : List ℕ → Name → Result ℕ ℕ → Type 0
 Found t name o = FoundAt tag_key bytes tag_bytes 50 34 (key_bytes.spell name) name t o

@@ -14,11 +14,14 @@ ghost use Rattle.layout.specs.Records.{tag_of, tag_bytes};
 ghost use Rattle.layout.specs.Tables.{tags_in, tags_ok, laid_over};
 ghost use Rattle.rows.specs.Lookups.{nth};
 ghost use Rattle.tags.specs.Lookups.{key_bytes, Found};
+ghost use Rattle.rows.proofs.Rows.{formed_tests};
+ghost use Rattle.rows.proofs.Tables.{tags};
+ghost use Rattle.std.proofs.Common.{lit<, lit≤};
 
 use basics::id::VolumeId;
 use layout::{TAG, TAG_KEY};
 use octets::{all_zero, load_id, load8, store_all, store_id, store8};
-use table::Spot;
+use rows::Kind;
 
 // The byte at a place, as a length.
 fn length_at(s: &[u8], at: usize) -> usize
@@ -69,26 +72,42 @@ fn tag_row(name: &[u8], vid: VolumeId) -> [u8; 50]
     row
 }
 
+// Tags as a kind of record.
+struct Tags;
+
+impl Kind for Tags {
+    ghost form = { λ b. in_form tag_bytes tag_form b };
+
+    ghost table = { λ t. tags_ok t };
+
+    const SIZE: usize = TAG;
+
+    ghost SIZE = { 50 };
+
+    const KEY: usize = TAG_KEY;
+
+    ghost KEY = { 34 };
+
+    fn in_form(s: &[u8], at: usize) -> bool {
+        tag_form(s, at)
+    }
+
+    ghost sized = { lit< tt };
+
+    ghost short = { lit≤ tt };
+
+    ghost tests = { λ t. formed_tests tags t };
+}
+
 // Whether bytes are a table of tags: their count, the order of their keys and the form of each (20).
 pub fn tags_formed(t: &[u8]) -> bool
     ensures { result ≡ tags_ok t.now }
 {
-    if !table::well_ordered(t, TAG, TAG_KEY) {
-        return false;
-    }
-    let n = table::count(t);
-    let mut i: usize = 0;
-    while i < n {
-        if !tag_form(t, 2 + i * TAG) {
-            return false;
-        }
-        i += 1;
-    }
-    true
+    rows::formed::<Tags>(t)
 }
 
 // Where the tag of a name stands.
-pub fn find_tag(t: &[u8], name: &[u8]) -> Spot
+pub fn find_tag(t: &[u8], name: &[u8]) -> Result<usize, usize>
     requires { (tags_ok t.now ≡ true) × (name_length name.now ≡ true) }
     ensures { Found t.now name.now result }
 {
@@ -110,8 +129,8 @@ pub fn room_for_tag(t: &[u8], name: &[u8]) -> bool
     ensures { (vid : Id) → id_form vid ≡ true → result ≡ fits (store tag_key bytes (tag_of (name.now, vid)) (tags_in t.now)) }
 {
     match find_tag(t, name) {
-        Spot::At(_) => true,
-        Spot::Gap(_) => table::room_for(t, TAG, 1),
+        Ok(_) => true,
+        Err(_) => table::room_for(t, TAG, 1),
     }
 }
 
@@ -130,7 +149,7 @@ pub fn remove_tag(t: &mut [u8], name: &[u8])
     requires { (tags_ok t.old ≡ true) × (name_length name.now ≡ true) }
     ensures { t.new ≡ laid_over tag_bytes (remove (λ g. same_id name.now g.name) (tags_in t.old)) t.old }
 {
-    let Spot::At(i) = find_tag(t, name) else {
+    let Ok(i) = find_tag(t, name) else {
         return;
     };
     table::remove(t, TAG, i);

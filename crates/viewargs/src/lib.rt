@@ -13,8 +13,8 @@ ghost use Rattle.viewargs.specs.Views.{latest_in, unformed as unformed_answer};
 use arguments::Reply;
 use arguments::snapshots::{put_snapshot, snapshot_arg, snapshot_ok};
 use basics::id::VolumeId;
+use basics::refusal::Refusal;
 use layout::SNAPSHOT;
-use pagecalls::YesAnswer;
 
 // The snapshot of the volume of an identifier, to `out`: 20, 3 for a place of another length, 4.
 pub fn snapshot(volumes: &[u8], commits: &[u8], vid: VolumeId, out: &mut [u8]) -> Reply
@@ -31,18 +31,23 @@ pub fn snapshot(volumes: &[u8], commits: &[u8], vid: VolumeId, out: &mut [u8]) -
 }
 
 // The answer of the latest check where the bytes of the snapshot are not in form: 20, 1 and 2 stay, all else is 3.
-fn unformed(a: YesAnswer) -> YesAnswer
+fn unformed(a: Result<bool, Refusal>) -> Result<bool, Refusal>
     ensures { yes_says result ≡ unformed_answer (yes_says a) }
 {
     match a {
-        YesAnswer::Refused(n) => YesAnswer::Refused(if n == 4 { 3 } else { n }),
-        YesAnswer::Yes => YesAnswer::Refused(3),
-        YesAnswer::No => YesAnswer::Refused(3),
+        Err(Refusal::NoVolume) => Err(Refusal::Form),
+        Err(refusal) => Err(refusal),
+        Ok(_) => Err(Refusal::Form),
     }
 }
 
 // Whether a snapshot is the latest of the volume of an identifier: 20, 1, 2, 3, 4.
-pub fn latest_check(volumes: &[u8], commits: &[u8], vid: VolumeId, snapshot: &[u8]) -> YesAnswer
+pub fn latest_check(
+    volumes: &[u8],
+    commits: &[u8],
+    vid: VolumeId,
+    snapshot: &[u8],
+) -> Result<bool, Refusal>
     ensures { yes_says result ≡ lent (volumes_ok volumes.now && commits_ok commits.now) (latest_in (volumes_in volumes.now) (commits_in commits.now) vid snapshot.now) }
 {
     let a = viewcalls::latest_check(volumes, commits, vid, snapshot_arg(snapshot));

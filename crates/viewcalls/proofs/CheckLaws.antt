@@ -1,6 +1,7 @@
--- The latest check. Of one range: by which log it names. Of a path: all of its ranges are latest, and one is remote exactly if there is a sync; the loops go by what is left of the
--- path. Of the call: each of its tests takes the rule's test away, in the rule's order.
-use Rattle.std.proofs.Common.{◌≡◌, ℕ, ◌+◌, ◌<◌, ◌≤◌, Bool, true, false, not, ◌&&◌, ◌||◌, leb, List, [], ◌∷◌, map, length, get_or, take, drop, sym, refl, ap, ◌∙◌, ap₂, add-one, arith, drop_of_length-le, length-take, get_or-take, le-leb, leb-true}
+-- The latest check. Of one range: by which log it names. Of a path: all of its ranges are latest, and one is remote exactly if there is a sync.
+-- Of the call: each of its tests takes the rule's test away, in the rule's order.
+use Rattle.std.proofs.Common.{◌≡◌, ℕ, ◌<◌, ◌≤◌, Bool, true, false, not, ◌&&◌, ◌||◌, leb, List, [], ◌∷◌, map, length, take, drop, sym, refl, ap, ◌∙◌, ap₂, arith, length-take, le-leb, leb-true, Option as Maybe, Some, None}
+use Rattle.std.specs.List.{list_any}
 use mathlib.Core.Option
 use mathlib.Core.Option.{Option, none, some}
 use lib.ListN.{length-map}
@@ -11,16 +12,13 @@ use Rattle.rules.specs.Tables.{Table, same_id, get_volume, latest, latest_lsn, v
 use Rattle.rules.specs.Arguments.{snapshot_lsns, snapshot_order, snapshot_form}
 use Rattle.rules.specs.Snapshots.{remote_of, is_at, range_latest, is_remote, same_answer, path_latest, is_latest, latest_check}
 use Rattle.rules.proofs.TableLaws.{and_fst, all_map, any_map, and_both}
-use Rattle.rules.proofs.Loops.{any_step}
 use Rattle.layout.specs.Lent.{lent}
 use Rattle.layout.specs.Tables.{volumes_in, volumes_ok, commits_in, commits_ok}
 use Rattle.layout.proofs.LentLaws.{lent_yes}
 use Rattle.rows.specs.Lookups.{nth}
 use Rattle.volume.specs.Volumes.{sync_says, volume_says}
 use Rattle.volume.specs.Snapshots.{range_says, snapshot_says, is_zero_range, in_form}
-use Rattle.volume.specs.declared.volume.Sync.{Sync}
 use Rattle.volume.specs.declared.volume.SyncPoint.{SyncPoint}
-use Rattle.volume.specs.declared.volume.Sync.TheVariants as Sync
 use Rattle.volume.specs.declared.volume.Volume.{Volume as CodeVolume}
 use Rattle.volume.specs.declared.snapshot.LogRange.{LogRange}
 use Rattle.volume.specs.declared.snapshot.Snapshot.{Snapshot as CodeSnapshot}
@@ -54,43 +52,27 @@ module _ (v : Volume) (o : Option ℕ) (r : Range) where
 
 -- ---- whether a remote range is there exactly if there is a sync
 
-module _ (b : Bool) (y : Sync) where
-  pub without_sync : y ≡ Sync.Missing → not b ≡ same_answer b (is_some (sync_says y))
-  without_sync e = go b ∙ ap (λ (x : Sync). same_answer b (is_some (sync_says x))) (sym e)
+module _ (b : Bool) (y : Maybe SyncPoint) where
+  pub without_sync : y ≡ None → not b ≡ same_answer b (is_some (sync_says y))
+  without_sync e = go b ∙ ap (λ (x : Maybe SyncPoint). same_answer b (is_some (sync_says x))) (sym e)
     where
       go : (a : Bool) → not a ≡ same_answer a false
       go true = refl
       go false = refl
 
-  pub with_sync : (p : SyncPoint) → y ≡ Sync.At p → b ≡ same_answer b (is_some (sync_says y))
-  with_sync p e = go b ∙ ap (λ (x : Sync). same_answer b (is_some (sync_says x))) (sym e)
+  pub with_sync : (p : SyncPoint) → y ≡ Some p → b ≡ same_answer b (is_some (sync_says y))
+  with_sync p e = go b ∙ ap (λ (x : Maybe SyncPoint). same_answer b (is_some (sync_says x))) (sym e)
     where
       go : (a : Bool) → a ≡ same_answer a true
       go true = refl
       go false = refl
 
--- ---- any of the first n of a list, one by one
+-- ---- any of a list, in std's word for it
 
-module _ {A : Type 0} (f : A → Bool) (d : A) (xs : List A) (n i : ℕ) (h : i < n) (k : i < length xs) where
-  turn : any f (drop i (take n xs)) ≡ f (get_or xs i d) || any f (drop (i + 1) (take n xs))
-  turn =
-      let l : i < length (take n xs) = simp length-take (omega arith) in
-      rw (add-one i, ← get_or-take n xs i d h) (any_step f (take n xs) d i l)
-
-  -- the element at i passes the test
-  pub passes : f (get_or xs i d) ≡ true → true ≡ any f (drop i (take n xs))
-  passes e = rw (turn, e)
-
-  -- it does not, and the rest decides
-  pub passes_not : f (get_or xs i d) ≡ false → any f (drop i (take n xs)) ≡ any f (drop (i + 1) (take n xs))
-  passes_not e = turn ∙ rw e
-
--- nothing is left
-pub no_more : {A : Type 0} (f : A → Bool) (xs : List A) (n i : ℕ) → n ≤ i → false ≡ any f (drop i (take n xs))
+pub any_listed : {A : Type 0} (f : A → Bool) (xs : List A) → list_any f xs ≡ any f xs
 unfolding any
-no_more f xs n i h =
-    let l : length (take n xs) ≤ i = simp length-take (omega arith) in
-    rw (drop_of_length-le (take n xs) l)
+any_listed f [] = refl
+any_listed f (x ∷ xs) = ap (λ (b : Bool). f x || b) (any_listed f xs)
 
 -- ---- a path
 

@@ -17,11 +17,10 @@ use basics::id;
 use basics::id::{LogId, VolumeId};
 use basics::lsn::Lsn;
 use basics::page_count::PageCount;
-use commits::{Place, commits_formed, count_at, find_commit, lsn_at};
-use pagecalls::YesAnswer;
-use table::Spot;
+use basics::refusal::Refusal;
+use commits::{commits_formed, count_at, find_commit, lsn_at};
 use volume::snapshot::{LogRange, Snapshot, SnapshotAnswer};
-use volume::volume::{MaybeLsn, Sync, Volume};
+use volume::volume::{SyncPoint, Volume};
 use volumes::{find_volume, volume_at, volumes_formed};
 
 // ---- snapshots of one range and of two
@@ -35,7 +34,7 @@ fn one_range(range: LogRange, count: u32) -> Snapshot
     path[0] = range;
     Snapshot {
         len: 1,
-        path: path,
+        path,
         count: PageCount(count),
     }
 }
@@ -50,7 +49,7 @@ fn two_ranges(range: LogRange, next: LogRange, count: u32) -> Snapshot
     path[1] = next;
     Snapshot {
         len: 2,
-        path: path,
+        path,
         count: PageCount(count),
     }
 }
@@ -58,46 +57,46 @@ fn two_ranges(range: LogRange, next: LogRange, count: u32) -> Snapshot
 // ---- a volume's sync point
 
 // The watermark, which may be missing.
-pub fn watermark_of(sync: Sync) -> MaybeLsn
+pub fn watermark_of(sync: Option<SyncPoint>) -> Option<Lsn>
     ensures { maybe_lsn_says result ≡ watermark_of (sync_says sync) }
 {
     match sync {
-        Sync::Missing => MaybeLsn::Missing,
-        Sync::At(point) => point.watermark,
+        None => None,
+        Some(point) => point.watermark,
     }
 }
 
 // The remote LSN that was synced, which is missing with the sync point.
-pub fn remote_of(sync: Sync) -> MaybeLsn
+pub fn remote_of(sync: Option<SyncPoint>) -> Option<Lsn>
     ensures { maybe_lsn_says result ≡ remote_of (sync_says sync) }
 {
     match sync {
-        Sync::Missing => MaybeLsn::Missing,
-        Sync::At(point) => {
+        None => None,
+        Some(point) => {
             let remote = point.remote;
-            MaybeLsn::At(remote)
+            Some(remote)
         }
     }
 }
 
 // Whether a watermark is missing or below an LSN.
-pub fn is_below(watermark: MaybeLsn, lsn: u64) -> bool
+pub fn is_below(watermark: Option<Lsn>, lsn: u64) -> bool
     ensures { result ≡ below (maybe_lsn_says watermark) lsn }
 {
     match watermark {
-        MaybeLsn::Missing => true,
-        MaybeLsn::At(w) => w.0 < lsn,
+        None => true,
+        Some(w) => w.0 < lsn,
     }
 }
 
 // The LSN after a watermark that is below another, or 1.
-fn lsn_after(watermark: MaybeLsn, lsn: u64) -> u64
+fn lsn_after(watermark: Option<Lsn>, lsn: u64) -> u64
     requires { below (maybe_lsn_says watermark) lsn ≡ true }
     ensures { result ≡ after (maybe_lsn_says watermark) }
 {
     match watermark {
-        MaybeLsn::Missing => 1,
-        MaybeLsn::At(w) => w.0 + 1,
+        None => 1,
+        Some(w) => w.0 + 1,
     }
 }
 
@@ -110,14 +109,14 @@ fn remote_snapshot(commits: &[u8], v: Volume) -> Snapshot
 {
     let log = v.remote;
     let sync = v.sync;
-    let MaybeLsn::At(lsn) = remote_of(sync) else {
+    let Some(lsn) = remote_of(sync) else {
         return Snapshot::empty(PageCount(0));
     };
-    let Place::At(i) = find_commit(commits, log, lsn.0) else {
+    let Some(i) = find_commit(commits, log, lsn.0) else {
         return Snapshot::empty(PageCount(0));
     };
     let range = LogRange {
-        log: log,
+        log,
         start: Lsn(1),
         end: Lsn(lsn_at(commits, i)),
     };
@@ -132,7 +131,7 @@ pub fn snapshot_of(commits: &[u8], v: Volume) -> Snapshot
     let local = v.local;
     let remote = v.remote;
     let sync = v.sync;
-    let Place::At(i) = commits::latest(commits, local) else {
+    let Some(i) = commits::latest(commits, local) else {
         return remote_snapshot(commits, v);
     };
     let end = lsn_at(commits, i);
@@ -146,7 +145,7 @@ pub fn snapshot_of(commits: &[u8], v: Volume) -> Snapshot
         start: Lsn(lsn_after(watermark, end)),
         end: Lsn(end),
     };
-    let MaybeLsn::At(synced) = remote_of(sync) else {
+    let Some(synced) = remote_of(sync) else {
         return one_range(range, count);
     };
     let next = LogRange {
@@ -175,7 +174,7 @@ pub fn snapshot(volumes: &[u8], commits: &[u8], vid: VolumeId) -> SnapshotAnswer
     if !commits_formed(commits) {
         return no_snapshot(20);
     }
-    let Spot::At(i) = find_volume(volumes, vid) else {
+    let Ok(i) = find_volume(volumes, vid) else {
         return no_snapshot(4);
     };
     let snapshot = snapshot_of(commits, volume_at(volumes, i));
@@ -185,28 +184,28 @@ pub fn snapshot(volumes: &[u8], commits: &[u8], vid: VolumeId) -> SnapshotAnswer
 // ---- latest check
 
 // The LSN of a log's latest commit, which may be missing.
-fn latest_of(commits: &[u8], log: LogId) -> MaybeLsn
+fn latest_of(commits: &[u8], log: LogId) -> Option<Lsn>
     requires { commits_ok commits.now ≡ true }
     ensures { maybe_lsn_says result ≡ latest_lsn (commits_in commits.now) log }
 {
-    let Place::At(i) = commits::latest(commits, log) else {
-        return MaybeLsn::Missing;
+    let Some(i) = commits::latest(commits, log) else {
+        return None;
     };
-    MaybeLsn::At(Lsn(lsn_at(commits, i)))
+    Some(Lsn(lsn_at(commits, i)))
 }
 
 // Whether an LSN is there and is that one.
-fn is_at(o: MaybeLsn, lsn: Lsn) -> bool
+fn is_at(o: Option<Lsn>, lsn: Lsn) -> bool
     ensures { result ≡ is_at (maybe_lsn_says o) lsn.0 }
 {
     match o {
-        MaybeLsn::Missing => false,
-        MaybeLsn::At(n) => n.0 == lsn.0,
+        None => false,
+        Some(n) => n.0 == lsn.0,
     }
 }
 
 // Whether a range names the local log and ends at its head, or names the remote and ends at sync.remote; the local log is tested first.
-fn range_latest(v: Volume, head: MaybeLsn, range: LogRange) -> bool
+fn range_latest(v: Volume, head: Option<Lsn>, range: LogRange) -> bool
     ensures { result ≡ latest_by (volume_says v) (maybe_lsn_says head) (range_says range) }
 {
     let local = v.local;
@@ -237,19 +236,13 @@ fn is_remote(v: Volume, range: LogRange) -> bool
 }
 
 // Whether each of the first ranges of a path is latest.
-fn all_latest(v: Volume, head: MaybeLsn, path: [LogRange; 8], len: usize) -> bool
+fn all_latest(v: Volume, head: Option<Lsn>, path: [LogRange; 8], len: usize) -> bool
     requires { len ≤ 8 }
     ensures { result ≡ all (λ x. latest_by (volume_says v) (maybe_lsn_says head) (range_says x)) (take len path) }
 {
-    let mut i: usize = 0;
-    while i < len {
-        let range = path[i];
-        if !range_latest(v, head, range) {
-            return false;
-        }
-        i += 1;
-    }
-    true
+    path[..len]
+        .iter()
+        .all(|range| range_latest(v, head, *range))
 }
 
 // Whether one of the first ranges of a path is remote.
@@ -257,37 +250,29 @@ fn any_remote(v: Volume, path: [LogRange; 8], len: usize) -> bool
     requires { len ≤ 8 }
     ensures { result ≡ any (λ x. is_remote (volume_says v) (range_says x)) (take len path) }
 {
-    let mut i: usize = 0;
-    while i < len {
-        let range = path[i];
-        if is_remote(v, range) {
-            return true;
-        }
-        i += 1;
-    }
-    false
+    path[..len].iter().any(|range| is_remote(v, *range))
 }
 
 // Whether there is neither a head nor a sync.
-fn is_fresh(head: MaybeLsn, sync: Sync) -> bool
+fn is_fresh(head: Option<Lsn>, sync: Option<SyncPoint>) -> bool
     ensures { result ≡ is_none (maybe_lsn_says head) && is_none (sync_says sync) }
 {
     match head {
-        MaybeLsn::Missing => match sync {
-            Sync::Missing => true,
-            Sync::At(_) => false,
+        None => match sync {
+            None => true,
+            Some(_) => false,
         },
-        MaybeLsn::At(_) => false,
+        Some(_) => false,
     }
 }
 
 // Whether a remote range is there exactly if there is a sync.
-fn fits_sync(found: bool, sync: Sync) -> bool
+fn fits_sync(found: bool, sync: Option<SyncPoint>) -> bool
     ensures { result ≡ same_answer found (is_some (sync_says sync)) }
 {
     match sync {
-        Sync::Missing => !found,
-        Sync::At(_) => found,
+        None => !found,
+        Some(_) => found,
     }
 }
 
@@ -311,29 +296,34 @@ pub fn is_latest(commits: &[u8], v: Volume, s: Snapshot) -> bool
 }
 
 // Whether a snapshot is the latest of the volume of an identifier: 20, 1, 2, 3, 4.
-pub fn latest_check(volumes: &[u8], commits: &[u8], vid: VolumeId, s: Snapshot) -> YesAnswer
+pub fn latest_check(
+    volumes: &[u8],
+    commits: &[u8],
+    vid: VolumeId,
+    s: Snapshot,
+) -> Result<bool, Refusal>
     ensures { yes_says result ≡ lent (volumes_ok volumes.now && commits_ok commits.now) (checked (volumes_in volumes.now) (commits_in commits.now) vid s) }
 {
     if !volumes_formed(volumes) {
-        return YesAnswer::Refused(20);
+        return Err(Refusal::TableForm);
     }
     if !commits_formed(commits) {
-        return YesAnswer::Refused(20);
+        return Err(Refusal::TableForm);
     }
     if !s.has_lsns() {
-        return YesAnswer::Refused(1);
+        return Err(Refusal::Zero);
     }
     if !s.is_ordered() {
-        return YesAnswer::Refused(2);
+        return Err(Refusal::Reversed);
     }
     if !s.is_formed() {
-        return YesAnswer::Refused(3);
+        return Err(Refusal::Form);
     }
-    let Spot::At(i) = find_volume(volumes, vid) else {
-        return YesAnswer::Refused(4);
+    let Ok(i) = find_volume(volumes, vid) else {
+        return Err(Refusal::NoVolume);
     };
     if is_latest(commits, volume_at(volumes, i), s) {
-        return YesAnswer::Yes;
+        return Ok(true);
     }
-    YesAnswer::No
+    Ok(false)
 }

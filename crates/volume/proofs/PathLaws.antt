@@ -1,5 +1,6 @@
--- A test of all elements of a part of a list, taken one by one; and the ranges of a path, as they are laid out and as the rules have them. Assumes nothing.
-use Rattle.std.proofs.Common.{◌≡◌, ℕ, zero, suc, ◌+◌, ◌<◌, ◌≤◌, min, Bool, true, false, ◌&&◌, eqb, List, [], ◌∷◌, map, length, get_or, take, drop, replicate, sym, refl, ap, ◌∙◌, add-one, arith, drop_of_length-le, length-take, take_all, get_or-take, ne_eqb, eqb-true}
+-- A test of all elements of a list, in std's word for it; and the ranges of a path, as they are laid out and as the rules have them. Assumes nothing.
+use Rattle.std.proofs.Common.{◌≡◌, ℕ, zero, suc, ◌<◌, ◌≤◌, Bool, true, ◌&&◌, eqb, List, [], ◌∷◌, map, length, get_or, take, replicate, sym, refl, ap, ◌∙◌, arith, length-take, take_all, ne_eqb, eqb-true}
+use Rattle.std.specs.List.{list_all}
 use mathlib.Core.Option.{some}
 use lib.ListN.{length-map}
 use Rattle.octets.proofs.Orders.{same_true}
@@ -7,30 +8,14 @@ use Rattle.octets.specs.Order.{is_equal, lex}
 use Rattle.rules.specs.Lists.{all}
 use Rattle.rules.specs.Records as rules
 use Rattle.rules.proofs.TableLaws.{all_map, and_fst, and_snd}
-use Rattle.rules.proofs.Loops.{all_step}
 use Rattle.volume.specs.declared.snapshot.LogRange.{LogRange}
 use Rattle.volume.specs.Snapshots.{range_says, laid_range, no_range, is_zero_range, first_end}
 
-module _ {A : Type 0} (f : A → Bool) (d : A) (xs : List A) (n i : ℕ) where
-  turn : i < n → i < length xs → all f (drop i (take n xs)) ≡ f (get_or xs i d) && all f (drop (i + 1) (take n xs))
-  turn h k =
-      let l : i < length (take n xs) = simp length-take (omega arith) in
-      rw (add-one i, ← get_or-take n xs i d h) (all_step f (take n xs) d i l)
-
-  -- the element at i fails the test
-  pub fails : i < n → i < length xs → f (get_or xs i d) ≡ false → false ≡ all f (drop i (take n xs))
-  fails h k e = rw (turn h k, e)
-
-  -- it passes it, and the rest decides
-  pub goes_on : i < n → i < length xs → f (get_or xs i d) ≡ true → all f (drop i (take n xs)) ≡ all f (drop (i + 1) (take n xs))
-  goes_on h k e = turn h k ∙ rw e
-
--- nothing is left
-pub none_left : {A : Type 0} (f : A → Bool) (xs : List A) (n i : ℕ) → min n (length xs) ≤ i → true ≡ all f (drop i (take n xs))
+-- std's word for it
+pub all_listed : {A : Type 0} (f : A → Bool) (xs : List A) → list_all f xs ≡ all f xs
 unfolding all
-none_left f xs n i h =
-    let l : length (take n xs) ≤ i = simp length-take (omega arith) in
-    rw (drop_of_length-le (take n xs) l)
+all_listed f [] = refl
+all_listed f (x ∷ xs) = ap (λ (b : Bool). f x && b) (all_listed f xs)
 
 -- a test of the rules over the first n ranges of a path of at most 8
 pub said : (f : rules.Range → Bool) (xs : List LogRange) (n : ℕ) → length xs ≤ 8 → all (λ r. f (range_says r)) (take n xs) ≡ all f (take 8 (map range_says (take n xs)))

@@ -1,19 +1,15 @@
 -- What a snapshot of the code says, when it is in form, and the value that an answer of the rules is laid out as.
-use Rattle.std.specs.Prelude.{ℕ, ◌+◌, ◌-◌, Bool, ◌&&◌, List, [], ◌∷◌, ◌++◌, map, length, take, drop, replicate, ◌==◌, nat_le, slice_set}
+use Rattle.std.specs.Prelude.{ℕ, ◌+◌, ◌-◌, Bool, ◌&&◌, List, [], ◌∷◌, ◌++◌, map, length, take, drop, replicate, ◌==◌, nat_le, slice_set, Some, None}
 use Rattle.std.proofs.Math.Option.{Option, none, some}
 use Rattle.octets.specs.Order.{is_equal, lex}
 use Rattle.basics.specs.Answers.{Answer, refused, done, ask, ◌>>=◌, ◌>>◌}
 use Rattle.rules.specs.Lists.{all}
 use Rattle.rules.specs.Records as rules
 use Rattle.rules.specs.Arguments.{range_lsns, range_order, snapshot_lsns, snapshot_order, snapshot_append}
-use Rattle.volume.specs.declared.volume.MaybeLsn.{MaybeLsn}
-use Rattle.volume.specs.declared.volume.MaybeLsn.TheVariants as MaybeLsn
 use Rattle.volume.specs.declared.snapshot.LogRange.{LogRange}
 use Rattle.volume.specs.declared.snapshot.Snapshot.{Snapshot}
 use Rattle.volume.specs.declared.snapshot.SnapshotAnswer.{SnapshotAnswer}
 use Rattle.volume.specs.declared.snapshot.Head.{Head}
-use Rattle.volume.specs.declared.snapshot.RangeTest.{RangeTest}
-use Rattle.volume.specs.declared.snapshot.RangeTest.TheVariants as RangeTest
 
 -- a range
 abbrev pub range_says : LogRange → rules.Range
@@ -26,12 +22,6 @@ snapshot_says s = record { path = map range_says (take s.len s.path); count = s.
 -- all of a range is zero
 abbrev pub is_zero_range : LogRange → Bool
 is_zero_range r = r.start.0 == 0 && r.end.0 == 0 && is_equal (lex r.log (replicate 16 0))
-
--- what a test asks of a range: document 01's 1 and 2, and that it is zero
-abbrev pub passes_test : RangeTest → LogRange → Bool
-passes_test RangeTest.Lsns r = range_lsns (range_says r)
-passes_test RangeTest.Order r = range_order (range_says r)
-passes_test RangeTest.Zero r = is_zero_range r
 
 -- a snapshot's form: at most 8 ranges, and zero past them
 unfoldable pub in_form : Snapshot → Bool
@@ -83,8 +73,8 @@ head_of s = first_end s.path
 
 -- a head as it is laid out
 abbrev pub laid_head : Option (List ℕ × ℕ) → Head
-laid_head none = record { lsn = MaybeLsn.Missing; log = replicate 16 0 }
-laid_head (some h) = record { lsn = MaybeLsn.At (record { 0 = h.1 }); log = h.0 }
+laid_head none = record { lsn = None; log = replicate 16 0 }
+laid_head (some h) = record { lsn = Some (record { 0 = h.1 }); log = h.0 }
 
 -- no range is on the path
 abbrev pub is_empty_path : rules.Snapshot → Bool

@@ -1,11 +1,9 @@
 // Snapshots: a path of at most 8 log ranges, and a page count.
-ghost use Rattle.std.specs.Prelude.{◌≡◌, ◌<◌, [], take, drop};
+ghost use Rattle.std.specs.Prelude.{◌≡◌, ◌<◌, []};
 ghost use Rattle.basics.specs.Answers.{refused as refused_rule};
-ghost use Rattle.rules.specs.Lists.{all};
 ghost use Rattle.rules.specs.Arguments.{range_lsns, range_order, snapshot_lsns, snapshot_order, snapshot_new};
-ghost use Rattle.volume.specs.Snapshots.{range_says, snapshot_says, no_range, is_zero_range, passes_test, in_form, laid, laid_answer, zero_code, with_range, appended, head_of, laid_head, is_empty_path};
+ghost use Rattle.volume.specs.Snapshots.{range_says, snapshot_says, no_range, is_zero_range, in_form, laid, laid_answer, zero_code, with_range, appended, head_of, laid_head, is_empty_path};
 
-use crate::volume::MaybeLsn;
 use basics::id;
 use basics::id::LogId;
 use basics::lsn::Lsn;
@@ -37,16 +35,8 @@ pub struct SnapshotAnswer {
 // The head of a path: a log and its LSN, or nothing. The log of nothing is zero.
 #[derive(Clone, Copy)]
 pub struct Head {
-    pub lsn: MaybeLsn,
+    pub lsn: Option<Lsn>,
     pub log: LogId,
-}
-
-// What a range is tested for: that neither LSN is 0, that the start is not above the end, that all of it is zero.
-#[derive(Clone, Copy)]
-pub enum RangeTest {
-    Lsns,
-    Order,
-    Zero,
 }
 
 impl LogRange {
@@ -56,7 +46,7 @@ impl LogRange {
     {
         let log = [0u8; 16];
         LogRange {
-            log: log,
+            log,
             start: Lsn(0),
             end: Lsn(0),
         }
@@ -92,35 +82,6 @@ impl LogRange {
     {
         self.start.0 <= self.end.0
     }
-
-    // Whether the range passes a test.
-    fn passes(self, test: RangeTest) -> bool
-        ensures { result ≡ passes_test test self }
-    {
-        match test {
-            RangeTest::Lsns => self.has_lsns(),
-            RangeTest::Order => self.is_ordered(),
-            RangeTest::Zero => self.is_zero(),
-        }
-    }
-}
-
-// Whether each range of a path from one place up to another passes a test.
-fn all_pass(path: [LogRange; 8], from: usize, to: usize, test: RangeTest) -> bool
-    ensures { result ≡ all (passes_test test) (drop from (take to path)) }
-{
-    let mut i = from;
-    while i < to {
-        if 8 <= i {
-            return true;
-        }
-        let range = path[i];
-        if !range.passes(test) {
-            return false;
-        }
-        i += 1;
-    }
-    true
 }
 
 impl Snapshot {
@@ -132,8 +93,8 @@ impl Snapshot {
         let path = [zero; 8];
         Snapshot {
             len: 0,
-            path: path,
-            count: count,
+            path,
+            count,
         }
     }
 
@@ -141,44 +102,40 @@ impl Snapshot {
     pub fn has_lsns(self) -> bool
         ensures { result ≡ snapshot_lsns (snapshot_says self) }
     {
-        let path = self.path;
-        all_pass(path, 0, self.len, RangeTest::Lsns)
+        self.path
+            .iter()
+            .take(self.len)
+            .all(|range| range.has_lsns())
     }
 
     // Whether no range starts above its end.
     pub fn is_ordered(self) -> bool
         ensures { result ≡ snapshot_order (snapshot_says self) }
     {
-        let path = self.path;
-        all_pass(path, 0, self.len, RangeTest::Order)
+        self.path
+            .iter()
+            .take(self.len)
+            .all(|range| range.is_ordered())
     }
 
     // Whether it has at most 8 ranges, and zero past them.
     pub fn is_formed(self) -> bool
         ensures { result ≡ in_form self }
     {
-        let len = self.len;
-        let path = self.path;
-        if 8 < len {
+        if 8 < self.len {
             return false;
         }
-        all_pass(path, len, 8, RangeTest::Zero)
+        self.path[self.len..].iter().all(|range| range.is_zero())
     }
 
     // The same with a range more, the last of the path.
-    fn with_range(self, range: LogRange) -> Snapshot
+    fn with_range(mut self, range: LogRange) -> Snapshot
         requires { self.len < 8 }
         ensures { result ≡ with_range self range }
     {
-        let len = self.len;
-        let count = self.count;
-        let mut path = self.path;
-        path[len] = range;
-        Snapshot {
-            len: len + 1,
-            path: path,
-            count: count,
-        }
+        self.path[self.len] = range;
+        self.len += 1;
+        self
     }
 
     // A snapshot of one range: 1 for an LSN 0, 2 for a start above the end.
@@ -226,17 +183,14 @@ impl Snapshot {
         let path = self.path;
         if self.len == 0 {
             let log = [0u8; 16];
-            return Head {
-                lsn: MaybeLsn::Missing,
-                log: log,
-            };
+            return Head { lsn: None, log };
         }
         let first = path[0];
         let log = first.log;
         let end = first.end;
         Head {
-            lsn: MaybeLsn::At(end),
-            log: log,
+            lsn: Some(end),
+            log,
         }
     }
 
@@ -253,18 +207,12 @@ fn refused(code: u32) -> SnapshotAnswer
     ensures { result ≡ laid_answer (refused_rule code) }
 {
     let snapshot = Snapshot::empty(PageCount(0));
-    SnapshotAnswer {
-        code: code,
-        snapshot: snapshot,
-    }
+    SnapshotAnswer { code, snapshot }
 }
 
 // A snapshot under the number 0.
 fn answered(snapshot: Snapshot) -> SnapshotAnswer
     ensures { result ≡ zero_code snapshot }
 {
-    SnapshotAnswer {
-        code: 0,
-        snapshot: snapshot,
-    }
+    SnapshotAnswer { code: 0, snapshot }
 }

@@ -1,17 +1,15 @@
 -- What the bytes of a volume at a place are read as, field by field, and that the code's value and the rules' volume determine each other.
-use Rattle.std.proofs.Common.{◌≡◌, ℕ, ◌+◌, Bool, true, false, cond, eqb, List, sym, refl, ap, ◌∙◌, ap₂, arith}
+use Rattle.std.proofs.Common.{◌≡◌, ℕ, ◌+◌, List, sym, refl, ap, ◌∙◌, ap₂, arith, Option as Maybe}
 use mathlib.Core.Option.{Option, none, some}
+use Rattle.volume.specs.declared.volume.SyncPoint.{SyncPoint}
 use Rattle.octets.specs.Bytes.{be, part}
 use Rattle.rules.specs.Records as rules
 use Rattle.layout.specs.Codecs.{number, reserved, optional, pair}
 use Rattle.layout.specs.Values.{id_bytes}
 use Rattle.layout.specs.Records.{hash_bytes, sync_bytes, pending_bytes, volume_bytes}
 use Rattle.layout.proofs.PlaceLaws.{pair_read, reserved_read, optional_read}
-use Rattle.volume.specs.Volumes.{hash_beside}
-use Rattle.volume.specs.declared.volume.Sync.{Sync}
 use Rattle.volume.specs.declared.volume.PendingCommit.{PendingCommit}
-use Rattle.volume.specs.declared.volume.Volume.{Volume}
-use Rattle.volumebytes.specs.Laid.{sync_laid, pending_laid, hash_laid, volume_laid}
+use Rattle.volumebytes.specs.Laid.{sync_laid, pending_laid, volume_laid}
 
 -- the sync point and the pending commit, and a volume of its parts
 abbrev States : Type 0
@@ -35,18 +33,6 @@ module _ (s : List ℕ) (at : ℕ) where
       ∙ ap (λ (x : ℕ × List ℕ). record { local = be (part at 8 s); commit = x.0; hash = x.1 }) (pair_read s bt (number 8) hash_bytes ct (omega arith))
 
 module _ (s : List ℕ) (at : ℕ) where
-  -- the hash that stands beside the pending commit
-  hash_read : (bt : ℕ) → at + 17 ≡ bt → hash_beside (pending_laid ((optional pending_bytes).read (part at 49 s))) (part bt 32 s) ≡ hash_laid ((optional pending_bytes).read (part at 49 s))
-  unfolding pending_bytes
-  hash_read bt e =
-      ap (λ (p : Option rules.Pending). hash_beside (pending_laid p) (part bt 32 s)) (optional_read s at pending_bytes)
-      ∙ go (eqb (be (part at 1 s)) 0) (pending_bytes.read (part (at + 1) 48 s)) (ap (λ (p : rules.Pending). p.hash) (pending_read s (at + 1) (at + 9) bt (omega arith) (omega arith)))
-      ∙ ap hash_laid (sym (optional_read s at pending_bytes))
-    where
-      go : (z : Bool) (p : rules.Pending) → p.hash ≡ part bt 32 s → hash_beside (pending_laid (cond z none (some p))) (part bt 32 s) ≡ hash_laid (cond z none (some p))
-      go true p h = refl
-      go false p h = sym h
-
   -- a volume
   volume_read_lem : volume_bytes.read (part at 117 s)
       ≡ record { vid = part (at + 1) 16 s; local = part (at + 18) 16 s; remote = part (at + 34) 16 s; sync = (optional sync_bytes).read (part (at + 50) 18 s); pending = (optional pending_bytes).read (part (at + 68) 49 s) }
@@ -67,18 +53,11 @@ module _ (s : List ℕ) (at : ℕ) where
 -- ---- a volume, read field by field
 
 module _ (s : List ℕ) (at : ℕ) where
-  pub volume_made : (vid local remote : List ℕ) (sync : Sync) (pending : PendingCommit) (hash : List ℕ)
+  pub volume_made : (vid local remote : List ℕ) (sync : Maybe SyncPoint) (pending : Maybe PendingCommit)
       → vid ≡ part (at + 1) 16 s
       → local ≡ part (at + 18) 16 s
       → remote ≡ part (at + 34) 16 s
       → sync ≡ sync_laid ((optional sync_bytes).read (part (at + 50) 18 s))
       → pending ≡ pending_laid ((optional pending_bytes).read (part (at + 68) 49 s))
-      → hash ≡ part (at + 85) 32 s
-      → record { vid = vid; local = local; remote = remote; sync = sync; pending = pending; pending_hash = hash_beside pending hash } ≡ volume_laid (volume_bytes.read (part at 117 s))
-  volume_made vid local remote sync pending hash v l m y p h =
-      rw (v, l, m, y, p, h)
-      (ap (λ (x : List ℕ). laid_of ((optional sync_bytes).read (part (at + 50) 18 s)) ((optional pending_bytes).read (part (at + 68) 49 s)) x) (hash_read s (at + 68) (at + 85) (omega arith))
-      ∙ ap volume_laid (sym (volume_read_lem s at)))
-    where
-      laid_of : Option rules.SyncPoint → Option rules.Pending → List ℕ → Volume
-      laid_of y p x = record { vid = part (at + 1) 16 s; local = part (at + 18) 16 s; remote = part (at + 34) 16 s; sync = sync_laid y; pending = pending_laid p; pending_hash = x }
+      → record { vid = vid; local = local; remote = remote; sync = sync; pending = pending } ≡ volume_laid (volume_bytes.read (part at 117 s))
+  volume_made vid local remote sync pending v l m y p = rw (v, l, m, y, p) (ap volume_laid (sym (volume_read_lem s at)))

@@ -1,5 +1,5 @@
 -- Stores field by field write the bytes of the whole: the last two stores are one store of both, and so on down to the first.
-use Rattle.std.proofs.Common.{◌≡◌, ℕ, suc, ◌+◌, ◌≤◌, List, ◌∷◌, ◌++◌, length, sym, refl, ap, ◌∙◌, ap₂, arith, length-append}
+use Rattle.std.proofs.Common.{◌≡◌, ℕ, suc, ◌+◌, ◌≤◌, List, ◌∷◌, ◌++◌, length, sym, refl, ap, ◌∙◌, ap₂, arith, length-append, Option as Maybe, Some, None}
 use mathlib.Core.Option.{Option, none, some}
 use Rattle.octets.specs.Bytes.{bytes_of, put}
 use Rattle.octets.proofs.Numbers.{length_bytes_of}
@@ -7,7 +7,6 @@ use Rattle.rules.specs.Records as rules
 use Rattle.rules.proofs.TableLaws.{missing, option_same}
 use Rattle.volume.specs.Volumes.{pending_says}
 use Rattle.volume.specs.declared.volume.PendingCommit.{PendingCommit}
-use Rattle.volume.specs.declared.volume.PendingCommit.TheVariants as PendingCommit
 use Rattle.layout.specs.Codecs.{number, optional}
 use Rattle.layout.specs.Records.{sync_bytes, pending_bytes, volume_bytes}
 use Rattle.layout.proofs.PlaceLaws.{pair_stored, there_stored, length_stored}
@@ -48,10 +47,10 @@ length_volume v lv ll lr lh =
     let l3 : length ((0 ∷ v.local) ++ (v.remote ++ (ys ++ ps))) ≡ 100 = length-append (0 ∷ v.local) (v.remote ++ (ys ++ ps)) ∙ ap₂ ◌+◌ (ap suc ll) l2 in
     length-append (0 ∷ v.vid) ((0 ∷ v.local) ++ (v.remote ++ (ys ++ ps))) ∙ ap₂ ◌+◌ (ap suc lv) l3
 
--- the hash of a pending commit is the one that stands beside it
-pub long_beside : (q : PendingCommit) (hash : List ℕ) → length hash ≡ 32 → (p : rules.Pending) → pending_says q hash ≡ some p → length p.hash ≡ 32
-long_beside PendingCommit.Missing hash l p e = absurd (missing refl e)
-long_beside (PendingCommit.At m n) hash l p e = ap (λ (x : rules.Pending). length x.hash) (sym (option_same e)) ∙ l
+-- the hash of a pending commit is the one that its value holds
+pub long_hash : (q : Maybe PendingCommit) → ((p : PendingCommit) → q ≡ Some p → length p.hash ≡ 32) → (r : rules.Pending) → pending_says q ≡ some r → length r.hash ≡ 32
+long_hash None l r e = absurd (missing refl e)
+long_hash (Some p) l r e = ap (λ (x : rules.Pending). length x.hash) (sym (option_same e)) ∙ l p refl
 
 -- ---- the stores
 

@@ -12,7 +12,7 @@ ghost use Rattle.layout.specs.Codecs.{in_form};
 ghost use Rattle.layout.specs.Records.{volume_bytes};
 ghost use Rattle.volumebytes.specs.Laid.{volume_laid};
 
-use octets::{load_hash, load_id, load8, store_id, store8};
+use octets::{load_id, load8, store_id, store8};
 use volume::volume::Volume;
 
 // Whether the 117 bytes at a place are a volume.
@@ -42,8 +42,7 @@ pub fn volume_read(s: &[u8], at: usize) -> Volume
     let remote = load_id(s, at + 34);
     let sync = sync::sync_read(s, at + 50);
     let pending = pending::pending_read(s, at + 68);
-    let hash = load_hash(s, at + 85);
-    Volume::new(vid, local, remote, sync, pending, hash)
+    Volume::new(vid, local, remote, sync, pending)
 }
 
 // The volume over the 117 bytes at a place.
@@ -51,19 +50,13 @@ pub fn volume_write(s: &mut [u8], at: usize, v: Volume)
     requires { at + 117 ≤ length s.old }
     ensures { s.new ≡ put at (volume_bytes.spell (volume_says v)) s.old }
 {
-    let vid = v.vid;
-    let local = v.local;
-    let remote = v.remote;
-    let sync = v.sync;
-    let pending = v.pending;
-    let hash = v.pending_hash;
     store8(s, at, 0);
-    store_id(s, at + 1, vid);
+    store_id(s, at + 1, v.vid);
     store8(s, at + 17, 0);
-    store_id(s, at + 18, local);
-    store_id(s, at + 34, remote);
-    sync::sync_write(s, at + 50, sync);
-    pending::pending_write(s, at + 68, pending, hash);
+    store_id(s, at + 18, v.local);
+    store_id(s, at + 34, v.remote);
+    sync::sync_write(s, at + 50, v.sync);
+    pending::pending_write(s, at + 68, v.pending);
 }
 
 // The bytes of a volume over as many lent ones.

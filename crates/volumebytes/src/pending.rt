@@ -8,9 +8,8 @@ ghost use Rattle.layout.specs.Codecs.{optional, in_form};
 ghost use Rattle.layout.specs.Records.{pending_bytes};
 ghost use Rattle.volumebytes.specs.Laid.{pending_laid};
 
-use basics::commit_hash::CommitHash;
 use basics::lsn::Lsn;
-use octets::{all_zero, load8, load64, store_all, store_hash, store8, store64};
+use octets::{all_zero, load_hash, load8, load64, store_all, store_hash, store8, store64};
 use volume::volume::PendingCommit;
 
 // Whether the 48 bytes at a place are a pending commit; its hash may be any.
@@ -39,31 +38,35 @@ pub fn pending_form(s: &[u8], at: usize) -> bool
     commit_form(s, at + 1)
 }
 
-// The pending commit in the 49 bytes at a place, without its hash.
-pub fn pending_read(s: &[u8], at: usize) -> PendingCommit
+// The pending commit in the 49 bytes at a place, or none.
+pub fn pending_read(s: &[u8], at: usize) -> Option<PendingCommit>
     requires { at + 49 ≤ length s.now }
     ensures { result ≡ pending_laid ((optional pending_bytes).read (part at 49 s.now)) }
 {
     if load8(s, at) == 0 {
-        return PendingCommit::Missing;
+        return None;
     }
     let local = Lsn(load64(s, at + 1));
     let commit = Lsn(load64(s, at + 9));
-    PendingCommit::At { local, commit }
+    let hash = load_hash(s, at + 17);
+    Some(PendingCommit {
+        local,
+        commit,
+        hash,
+    })
 }
 
-// The pending commit and its hash over the 49 bytes at a place; zeros where it is missing.
-pub fn pending_write(s: &mut [u8], at: usize, pending: PendingCommit, hash: CommitHash)
+// The pending commit over the 49 bytes at a place; zeros where it is missing.
+pub fn pending_write(s: &mut [u8], at: usize, pending: Option<PendingCommit>)
     requires { at + 49 ≤ length s.old }
-    ensures { s.new ≡ put at ((optional pending_bytes).spell (pending_says pending hash)) s.old }
+    ensures { s.new ≡ put at ((optional pending_bytes).spell (pending_says pending)) s.old }
 {
-    let PendingCommit::At { local, commit } = pending else {
-        let none = [0u8; 49];
-        store_all(s, at, &none);
+    let Some(p) = pending else {
+        store_all(s, at, &[0u8; 49]);
         return;
     };
     store8(s, at, 1);
-    store64(s, at + 1, local.0);
-    store64(s, at + 9, commit.0);
-    store_hash(s, at + 17, hash);
+    store64(s, at + 1, p.local.0);
+    store64(s, at + 9, p.commit.0);
+    store_hash(s, at + 17, p.hash);
 }

@@ -10,7 +10,7 @@ ghost use Rattle.volumebytes.specs.Laid.{mark_laid, sync_laid};
 
 use basics::lsn::Lsn;
 use octets::{all_zero, load8, load64, store_all, store8, store64};
-use volume::volume::{MaybeLsn, Sync, SyncPoint};
+use volume::volume::SyncPoint;
 
 // Whether the 9 bytes at a place are a watermark, or none.
 fn watermark_form(s: &[u8], at: usize) -> bool
@@ -54,35 +54,35 @@ pub fn sync_form(s: &[u8], at: usize) -> bool
 }
 
 // The watermark in the 9 bytes at a place.
-fn watermark_read(s: &[u8], at: usize) -> MaybeLsn
+fn watermark_read(s: &[u8], at: usize) -> Option<Lsn>
     requires { at + 9 ≤ length s.now }
     ensures { result ≡ mark_laid ((optional (number 8)).read (part at 9 s.now)) }
 {
     if load8(s, at) == 0 {
-        return MaybeLsn::Missing;
+        return None;
     }
-    MaybeLsn::At(Lsn(load64(s, at + 1)))
+    Some(Lsn(load64(s, at + 1)))
 }
 
 // The sync point in the 18 bytes at a place.
-pub fn sync_read(s: &[u8], at: usize) -> Sync
+pub fn sync_read(s: &[u8], at: usize) -> Option<SyncPoint>
     requires { at + 18 ≤ length s.now }
     ensures { result ≡ sync_laid ((optional sync_bytes).read (part at 18 s.now)) }
 {
     if load8(s, at) == 0 {
-        return Sync::Missing;
+        return None;
     }
     let remote = Lsn(load64(s, at + 1));
     let watermark = watermark_read(s, at + 9);
-    Sync::At(SyncPoint { remote, watermark })
+    Some(SyncPoint { remote, watermark })
 }
 
 // The watermark over the 9 bytes at a place; zeros where it is missing.
-fn watermark_write(s: &mut [u8], at: usize, watermark: MaybeLsn)
+fn watermark_write(s: &mut [u8], at: usize, watermark: Option<Lsn>)
     requires { at + 9 ≤ length s.old }
     ensures { s.new ≡ put at ((optional (number 8)).spell (maybe_lsn_says watermark)) s.old }
 {
-    let MaybeLsn::At(lsn) = watermark else {
+    let Some(lsn) = watermark else {
         let none = [0u8; 9];
         store_all(s, at, &none);
         return;
@@ -92,11 +92,11 @@ fn watermark_write(s: &mut [u8], at: usize, watermark: MaybeLsn)
 }
 
 // The sync point over the 18 bytes at a place; zeros where it is missing.
-pub fn sync_write(s: &mut [u8], at: usize, sync: Sync)
+pub fn sync_write(s: &mut [u8], at: usize, sync: Option<SyncPoint>)
     requires { at + 18 ≤ length s.old }
     ensures { s.new ≡ put at ((optional sync_bytes).spell (sync_says sync)) s.old }
 {
-    let Sync::At(point) = sync else {
+    let Some(point) = sync else {
         let none = [0u8; 18];
         store_all(s, at, &none);
         return;

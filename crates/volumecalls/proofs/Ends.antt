@@ -1,6 +1,6 @@
 -- The ends of the calls on volumes: for each way out of the code, the rule's answer. The tables are formed, so the rule's 20 passes; what is left is the volume that the
 -- lookup found, or that there is none.
-use Rattle.std.proofs.Common.{◌≡◌, ℕ, true, List, ◌∷◌, sym, refl, ap, ◌∙◌}
+use Rattle.std.proofs.Common.{◌≡◌, ℕ, true, List, ◌∷◌, sym, refl, ap, ◌∙◌, Result, Ok, Err, None}
 use mathlib.Core.Option.{Option, none, some, map}
 use Rattle.basics.specs.Answers.{Answer, done, need, ◌>>=◌}
 use Rattle.basics.specs.Orders.{bytes}
@@ -15,8 +15,6 @@ use Rattle.rules.proofs.TableLaws.{option_same, missing, get_some, all_at}
 use Rattle.rules.proofs.Kept.{pending_form_lem}
 use Rattle.table.specs.Records.{spot}
 use Rattle.table.specs.Table.{recs}
-use Rattle.table.specs.declared.Spot.{Spot}
-use Rattle.table.specs.declared.Spot.TheVariants.{At, Gap}
 use Rattle.layout.specs.Lent.{lent}
 use Rattle.layout.specs.Tables.{volumes_in, volumes_ok}
 use Rattle.layout.proofs.LentLaws.{past_20}
@@ -24,9 +22,7 @@ use Rattle.rows.specs.Lookups.{nth, at_spot}
 use Rattle.rows.proofs.Rows.{formed_rules, formed_forms}
 use Rattle.rows.proofs.Tables.{volumes}
 use Rattle.volume.specs.Volumes.{volume_says}
-use Rattle.basics.specs.Hashes.{zero_hash}
 use Rattle.volume.specs.declared.volume.Volume.{Volume as CodeVolume}
-use Rattle.volume.specs.declared.volume.PendingCommit.TheVariants as PendingCommit
 use Rattle.volumebytes.specs.Laid.{volume_laid}
 use Rattle.volumebytes.proofs.RoundLaws.{says_laid}
 
@@ -37,12 +33,12 @@ made_of f (some a) b e k = k a refl (option_same e)
 
 module _ (t : List ℕ) (vid : Id) (ok : volumes_ok t ≡ true) where
   -- the volume at the spot that was found
-  pub here : (o : Spot) (i : ℕ) → at_spot o (volumes_in t).rows ≡ get_volume (volumes_in t) vid → o ≡ At i → nth i (volumes_in t).rows ≡ get_volume (volumes_in t) vid
-  here o i e a = ap (λ (p : Spot). at_spot p (volumes_in t).rows) (sym a) ∙ e
+  pub here : (o : Result ℕ ℕ) (i : ℕ) → at_spot o (volumes_in t).rows ≡ get_volume (volumes_in t) vid → o ≡ Ok i → nth i (volumes_in t).rows ≡ get_volume (volumes_in t) vid
+  here o i e a = ap (λ (p : Result ℕ ℕ). at_spot p (volumes_in t).rows) (sym a) ∙ e
 
   -- in a gap there is none
-  pub nowhere : (o : Spot) (i : ℕ) → at_spot o (volumes_in t).rows ≡ get_volume (volumes_in t) vid → o ≡ Gap i → get_volume (volumes_in t) vid ≡ none
-  nowhere o i e a = sym e ∙ ap (λ (p : Spot). at_spot p (volumes_in t).rows) a
+  pub nowhere : (o : Result ℕ ℕ) (i : ℕ) → at_spot o (volumes_in t).rows ≡ get_volume (volumes_in t) vid → o ≡ Err i → get_volume (volumes_in t) vid ≡ none
+  nowhere o i e a = sym e ∙ ap (λ (p : Result ℕ ℕ). at_spot p (volumes_in t).rows) a
 
   formed : volumes_formed (volumes_in t) ≡ true
   formed = formed_rules volumes t ok
@@ -75,10 +71,10 @@ module _ (t : List ℕ) (vid : Id) (ok : volumes_ok t ≡ true) where
 
 -- ---- drop: the volume x by value that was read at place i, and y, x without its pending commit
 
-module _ (t : List ℕ) (vid : Id) (ok : volumes_ok t ≡ true) (o : Spot) (i : ℕ) (place : o ≡ spot 17 (0 ∷ vid) (recs 117 t))
-    (says : at_spot o (volumes_in t).rows ≡ get_volume (volumes_in t) vid) (hit : o ≡ At i)
+module _ (t : List ℕ) (vid : Id) (ok : volumes_ok t ≡ true) (o : Result ℕ ℕ) (i : ℕ) (place : o ≡ spot 17 (0 ∷ vid) (recs 117 t))
+    (says : at_spot o (volumes_in t).rows ≡ get_volume (volumes_in t) vid) (hit : o ≡ Ok i)
     (x y : CodeVolume) (read : map volume_laid (nth i (volumes_in t).rows) ≡ some x)
-    (made : y ≡ record { vid = x.vid; local = x.local; remote = x.remote; sync = x.sync; pending = PendingCommit.Missing; pending_hash = zero_hash }) where
+    (made : y ≡ record { vid = x.vid; local = x.local; remote = x.remote; sync = x.sync; pending = None }) where
   -- y says the volume that was found, without its pending commit
   record Drops : Type 0 where
     pub old : Volume
@@ -97,7 +93,7 @@ module _ (t : List ℕ) (vid : Id) (ok : volumes_ok t ≡ true) (o : Spot) (i : 
         same = found_vid t vid ok v there ∙ ap (λ (z : CodeVolume). z.vid) q ∙ sym (ap (λ (z : CodeVolume). z.vid) made);
       })
 
-  pub drop_ready : ((volumes_ok t ≡ true) × (Forms.volume_form (volume_says y) ≡ true)) × (spot 17 (0 ∷ y.vid) (recs 117 t) ≡ At i)
+  pub drop_ready : ((volumes_ok t ≡ true) × (Forms.volume_form (volume_says y) ≡ true)) × (spot 17 (0 ∷ y.vid) (recs 117 t) ≡ Ok i)
   drop_ready = (
     (ok, ap Forms.volume_form drops.tells ∙ pending_form_lem drops.old none (found_form t vid ok drops.old drops.found) refl),
     ap (λ (z : List ℕ). spot 17 (0 ∷ z) (recs 117 t)) (sym drops.same) ∙ sym place ∙ hit,

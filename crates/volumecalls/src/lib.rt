@@ -11,11 +11,9 @@ ghost use Rattle.layout.specs.Tables.{volumes_in, volumes_ok};
 ghost use Rattle.layout.specs.Lent.{lent, after};
 ghost use Rattle.volumecalls.specs.Says.{volume_answer};
 
-use basics::commit_hash;
 use basics::id::VolumeId;
-use pagecalls::YesAnswer;
-use table::Spot;
-use volume::volume::{PendingCommit, Sync, Volume};
+use basics::refusal::Refusal;
+use volume::volume::Volume;
 use volumes::{find_volume, remove_volume, store_volume, volume_at, volumes_formed};
 
 // A volume under 0, or the number of a refusal and the volume of zeros.
@@ -30,14 +28,7 @@ pub fn no_volume(code: u32) -> VolumeAnswer
     ensures { result ≡ volume_answer (refused code) }
 {
     let none = [0u8; 16];
-    let volume = Volume::new(
-        none,
-        none,
-        none,
-        Sync::Missing,
-        PendingCommit::Missing,
-        commit_hash::zero(),
-    );
+    let volume = Volume::new(none, none, none, None, None);
     VolumeAnswer { code, volume }
 }
 
@@ -48,7 +39,7 @@ pub fn volume_read(volumes: &[u8], vid: VolumeId) -> VolumeAnswer
     if !volumes_formed(volumes) {
         return no_volume(20);
     }
-    let Spot::At(i) = find_volume(volumes, vid) else {
+    let Ok(i) = find_volume(volumes, vid) else {
         return no_volume(4);
     };
     let volume = volume_at(volumes, i);
@@ -56,15 +47,15 @@ pub fn volume_read(volumes: &[u8], vid: VolumeId) -> VolumeAnswer
 }
 
 // Whether a volume is stored: 20.
-pub fn volume_exists(volumes: &[u8], vid: VolumeId) -> YesAnswer
+pub fn volume_exists(volumes: &[u8], vid: VolumeId) -> Result<bool, Refusal>
     ensures { yes_says result ≡ lent (volumes_ok volumes.now) (volume_exists (volumes_in volumes.now) vid) }
 {
     if !volumes_formed(volumes) {
-        return YesAnswer::Refused(20);
+        return Err(Refusal::TableForm);
     }
     match find_volume(volumes, vid) {
-        Spot::At(_) => YesAnswer::Yes,
-        Spot::Gap(_) => YesAnswer::No,
+        Ok(_) => Ok(true),
+        Err(_) => Ok(false),
     }
 }
 
@@ -88,14 +79,10 @@ pub fn drop_pending(volumes: &mut [u8], vid: VolumeId) -> u32
     if !volumes_formed(volumes) {
         return 20;
     }
-    let Spot::At(i) = find_volume(volumes, vid) else {
+    let Ok(i) = find_volume(volumes, vid) else {
         return 4;
     };
     let v = volume_at(volumes, i);
-    store_volume(
-        volumes,
-        i,
-        v.with_pending_commit(PendingCommit::Missing, commit_hash::zero()),
-    );
+    store_volume(volumes, i, v.with_pending_commit(None));
     0
 }

@@ -1,7 +1,7 @@
 // The table of volumes in lent bytes: its form, lookups, and stores, in the words of document 01's tables.
 #![tactic(auto)]
 
-ghost use Rattle.std.specs.Prelude.{◌≡◌, ◌<◌, true, ◌∷◌};
+ghost use Rattle.std.specs.Prelude.{◌≡◌, ◌<◌, true, ◌∷◌, Ok};
 ghost use Rattle.std.proofs.Math.Option.{some, map};
 ghost use Rattle.basics.specs.Orders.{bytes};
 ghost use Rattle.rules.specs.Lists.{is_none};
@@ -10,37 +10,56 @@ ghost use Rattle.rules.specs.Forms.{volume_form};
 ghost use Rattle.rules.specs.Tables.{store, remove, fits, same_id, get_volume};
 ghost use Rattle.table.specs.Records.{spot};
 ghost use Rattle.table.specs.Table.{count_of, recs};
-ghost use Rattle.table.specs.declared.Spot.TheVariants.{At};
 ghost use Rattle.volume.specs.Volumes.{volume_says};
 ghost use Rattle.volumebytes.specs.Laid.{volume_laid};
 ghost use Rattle.layout.specs.Records.{volume_bytes};
 ghost use Rattle.layout.specs.Tables.{volumes_in, volumes_ok, laid_over};
 ghost use Rattle.rows.specs.Lookups.{nth};
 ghost use Rattle.volumes.specs.Lookups.{Found};
+ghost use Rattle.rows.proofs.Rows.{formed_tests};
+ghost use Rattle.rows.proofs.Tables.{volumes};
+ghost use Rattle.std.proofs.Common.{lit<, lit≤};
+ghost use Rattle.layout.specs.Codecs.{in_form};
 
 use basics::id::VolumeId;
 use layout::{VOLUME, VOLUME_KEY};
 use octets::store_id;
-use table::Spot;
+use rows::Kind;
 use volume::volume::Volume;
 use volumebytes::{put_out, volume_form, volume_read};
+
+// Volumes as a kind of record.
+struct Volumes;
+
+impl Kind for Volumes {
+    ghost form = { λ b. in_form volume_bytes volume_form b };
+
+    ghost table = { λ t. volumes_ok t };
+
+    const SIZE: usize = VOLUME;
+
+    ghost SIZE = { 117 };
+
+    const KEY: usize = VOLUME_KEY;
+
+    ghost KEY = { 17 };
+
+    fn in_form(s: &[u8], at: usize) -> bool {
+        volume_form(s, at)
+    }
+
+    ghost sized = { lit< tt };
+
+    ghost short = { lit≤ tt };
+
+    ghost tests = { λ t. formed_tests volumes t };
+}
 
 // Whether bytes are a table of volumes: their count, the order of their keys and the form of each (20).
 pub fn volumes_formed(t: &[u8]) -> bool
     ensures { result ≡ volumes_ok t.now }
 {
-    if !table::well_ordered(t, VOLUME, VOLUME_KEY) {
-        return false;
-    }
-    let n = table::count(t);
-    let mut i: usize = 0;
-    while i < n {
-        if !volume_form(t, 2 + i * VOLUME) {
-            return false;
-        }
-        i += 1;
-    }
-    true
+    rows::formed::<Volumes>(t)
 }
 
 // The key of an identifier.
@@ -62,7 +81,7 @@ fn volume_row(v: Volume) -> [u8; 117]
 }
 
 // Where the volume of an identifier stands.
-pub fn find_volume(t: &[u8], vid: VolumeId) -> Spot
+pub fn find_volume(t: &[u8], vid: VolumeId) -> Result<usize, usize>
     requires { volumes_ok t.now ≡ true }
     ensures { Found t.now vid result }
 {
@@ -76,8 +95,8 @@ pub fn vid_free(t: &[u8], vid: VolumeId) -> bool
     ensures { result ≡ is_none (get_volume (volumes_in t.now) vid) }
 {
     match find_volume(t, vid) {
-        Spot::At(_) => false,
-        Spot::Gap(_) => true,
+        Ok(_) => false,
+        Err(_) => true,
     }
 }
 
@@ -94,17 +113,14 @@ pub fn room_for_volume(t: &[u8], v: Volume) -> bool
     requires { (volumes_ok t.now ≡ true) × (volume_form (volume_says v) ≡ true) }
     ensures { result ≡ fits (store volume_key bytes (volume_says v) (volumes_in t.now)) }
 {
-    let vid = v.vid;
-    match find_volume(t, vid) {
-        Spot::At(_) => true,
-        Spot::Gap(_) => table::room_for(t, VOLUME, 1),
-    }
+    let row = volume_row(v);
+    table::room(t, VOLUME, VOLUME_KEY, &row)
 }
 
 // A volume in the place where its identifier was found.
 pub fn store_volume(t: &mut [u8], i: usize, v: Volume)
     requires t_value { (volumes_ok t.old ≡ true) × (volume_form (volume_says v) ≡ true) }
-    requires t_value_2 { spot 17 (0 ∷ v.vid) (recs 117 t.old) ≡ At i }
+    requires t_value_2 { spot 17 (0 ∷ v.vid) (recs 117 t.old) ≡ Ok i }
     ensures { t.new ≡ laid_over volume_bytes (store volume_key bytes (volume_says v) (volumes_in t.old)) t.old }
 {
     let row = volume_row(v);
@@ -126,7 +142,7 @@ pub fn remove_volume(t: &mut [u8], vid: VolumeId)
     requires { volumes_ok t.old ≡ true }
     ensures { t.new ≡ laid_over volume_bytes (remove (λ v. same_id vid v.vid) (volumes_in t.old)) t.old }
 {
-    let Spot::At(i) = find_volume(t, vid) else {
+    let Ok(i) = find_volume(t, vid) else {
         return;
     };
     table::remove(t, VOLUME, i);

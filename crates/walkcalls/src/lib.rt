@@ -22,10 +22,11 @@ ghost use Rattle.walkcalls.specs.Items.{item_bytes};
 use arguments::Reply;
 use arguments::snapshots::snapshot_arg;
 use basics::page_count::PageCount;
-use commits::{Place, commits_formed, lsn_at, row};
-use gifts::paths::{Path, at_most, path_of};
+use commits::{commits_formed, lsn_at, row};
+use gifts::paths::Path;
 use gifts::{next_gift, put_gift};
 use layout::SEGMENT;
+use notes::Notes;
 use octets::store64;
 use resultlists::{copy, snapshot_code};
 
@@ -33,9 +34,9 @@ use resultlists::{copy, snapshot_code};
 const ITEM: usize = 1003;
 
 // The item of record i, whose segment is there, and its gift, which is given by masks, over the entry at a place of the list.
-fn put_item(list: &mut [u8], at: usize, commits: &[u8], i: usize, left: &[u64])
+fn put_item(list: &mut [u8], at: usize, commits: &[u8], i: usize, left: &[u64; 32])
     requires commits_value { (commits_ok commits.now ≡ true) × (i < count_of commits.now) × (is_some (commit_at commits.now i).segment ≡ true) }
-    requires left_value { (normal_form (given (pages_of (commit_at commits.now i).segment) left.now) ≡ true) × (length left.now ≡ 32) × (at + 1003 ≤ length list.old) }
+    requires left_value { (normal_form (given (pages_of (commit_at commits.now i).segment) left.now) ≡ true) × (at + 1003 ≤ length list.old) }
     ensures { list.new ≡ put at (item_bytes.spell (item_at commits.now i (given (pages_of (commit_at commits.now i).segment) left.now))) list.old }
 {
     let from = row(commits, i);
@@ -50,18 +51,14 @@ fn count_items(commits: &[u8], path: Path, count: PageCount) -> usize
     requires { (commits_ok commits.now ≡ true) × Inside commits.now (places_in path.runs) }
     ensures { result ≡ length (items_from commits.now count.0 (places_in path.runs) 0) }
 {
-    let mut tags = [0u32; 64];
-    let mut masks = [0u64; 64];
-    let mut marks = [0u64; 64];
+    let mut notes = Notes::new();
     let mut left = [0u64; 32];
     let mut k: usize = 0;
     let mut n: usize = 0;
     loop {
-        let step = next_gift(
-            commits, path, count, k, &mut tags, &mut masks, &mut marks, &mut left,
-        );
+        let step = next_gift(commits, path, count, k, &mut notes, &mut left);
         let at = step.at;
-        let Place::At(_) = at else {
+        let Some(_) = at else {
             return n;
         };
         n += 1;
@@ -74,7 +71,7 @@ fn has_room(commits: &[u8], path: Path, count: PageCount, slots: usize) -> bool
     requires { (commits_ok commits.now ≡ true) × Inside commits.now (places_in path.runs) }
     ensures { result ≡ nat_le (length (items_from commits.now count.0 (places_in path.runs) 0)) slots }
 {
-    if at_most(path, slots) {
+    if path.at_most(slots) {
         return true;
     }
     count_items(commits, path, count) <= slots
@@ -87,18 +84,14 @@ fn put_items(commits: &[u8], path: Path, count: PageCount, list: &mut [u8]) -> u
     ensures value { (result ≡ length (items_from commits.now count.0 (places_in path.runs) 0)) × (result ≤ 524280) }
     ensures list_after { list.new ≡ put 0 (flat item_bytes.spell (items_from commits.now count.0 (places_in path.runs) 0)) list.old }
 {
-    let mut tags = [0u32; 64];
-    let mut masks = [0u64; 64];
-    let mut marks = [0u64; 64];
+    let mut notes = Notes::new();
     let mut left = [0u64; 32];
     let mut k: usize = 0;
     let mut n: usize = 0;
     loop {
-        let step = next_gift(
-            commits, path, count, k, &mut tags, &mut masks, &mut marks, &mut left,
-        );
+        let step = next_gift(commits, path, count, k, &mut notes, &mut left);
         let at = step.at;
-        let Place::At(i) = at else {
+        let Some(i) = at else {
             return n;
         };
         put_item(list, n * ITEM, commits, i, &left);
@@ -119,7 +112,7 @@ pub fn walk(commits: &[u8], snapshot: &[u8], list: &mut [u8], items: &mut u32) -
         return Reply { code, found: 0 };
     }
     let s = snapshot_arg(snapshot);
-    let path = path_of(commits, s);
+    let path = Path::of(commits, s);
     let count = s.count;
     if !has_room(commits, path, count, list.len() / ITEM) {
         return Reply { code: 19, found: 0 };

@@ -1,4 +1,4 @@
--- `batch::count_new` meets its contract. The invariant: the count so far and that of the records from i on are the whole; the measure: n - i.
+-- `batch::count_new` meets its contract. The invariant: the count so far and that of the records from i on are the whole.
 use mathlib.Core.Path.{◌≡◌}
 use Prim.Native.Nat.{◌+◌, ◌-◌, ◌*◌, ◌≤◌}
 use Rattle.table.specs.Table.{runs, recs}
@@ -6,7 +6,7 @@ use Rattle.batch.specs.Batch.{news}
 use Rattle.batch.proofs.count_new.Given as goal
 
 abbrev pub invariant-loop-i : goal.invariant-loop-i
-invariant-loop-i l = (l.i ≤ l.n) × (l.from ≡ l.i * l.stride) × (l.c ≤ l.i) × (l.c + news l.klen (runs (l.n - l.i) l.stride l.from l.batch) (recs l.stride l.t) ≡ news l.klen (runs l.n l.stride 0 l.batch) (recs l.stride l.t))
-
-abbrev pub decreases-loop-i : goal.decreases-loop-i
-decreases-loop-i l = l.n - l.i
+invariant-loop-i l = record {
+  small : l.c ≤ l.i;
+  whole : l.c + news l.klen (runs (l.n - l.i) l.stride (l.i * l.stride) l.batch) (recs l.stride l.t) ≡ news l.klen (runs l.n l.stride 0 l.batch) (recs l.stride l.t);
+}

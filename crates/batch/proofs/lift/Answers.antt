@@ -1,24 +1,22 @@
 -- `batch::lift` meets its contract: the record right below those that moved.
 use native.Mathlib.Omega.{arith}
 use Rattle.batch.proofs.Lifts.{lift_rows, lift_done}
-use mathlib.Core.Path.{◌≡◌}
-use Prim.Native.Nat.{◌+◌, ◌-◌, ◌*◌}
 use Rattle.batch.proofs.lift.Goals as goal
 
 pub overflow_mul-q : goal.overflow_mul-q
 overflow_mul-q c =
-    let rows : let a = c.args in ((a.q + a.d - 1) * a.stride + a.stride ≡ (a.q + a.d) * a.stride) × ((a.i - a.q) * a.stride + (a.q + a.d) * a.stride ≡ (a.i + a.d) * a.stride) = lift_rows c.args.stride c.args.q c.args.i c.args.d c.requires.0 c.requires.1 in
-    omega (arith, rows)
+    let a = c.args in
+    omega (arith, lift_rows a.stride a.q a.i a.d c.requires.0 c.requires.1)
 
 pub overflow_add-q-2 : goal.overflow_add-q-2
 overflow_add-q-2 c =
-    let rows : let a = c.args in ((a.q + a.d - 1) * a.stride + a.stride ≡ (a.q + a.d) * a.stride) × ((a.i - a.q) * a.stride + (a.q + a.d) * a.stride ≡ (a.i + a.d) * a.stride) = lift_rows c.args.stride c.args.q c.args.i c.args.d c.requires.0 c.requires.1 in
-    omega (arith, rows)
+    let a = c.args in
+    omega (arith, lift_rows a.stride a.q a.i a.d c.requires.0 c.requires.1)
 
 pub store_all-requires : goal.store_all-requires
 store_all-requires c =
-    let rows : let a = c.args in ((a.q + a.d - 1) * a.stride + a.stride ≡ (a.q + a.d) * a.stride) × ((a.i - a.q) * a.stride + (a.q + a.d) * a.stride ≡ (a.i + a.d) * a.stride) = lift_rows c.args.stride c.args.q c.args.i c.args.d c.requires.0 c.requires.1 in
-    omega (arith, rows, c.move_records.auto.t)
+    let a = c.args in
+    omega (arith, lift_rows a.stride a.q a.i a.d c.requires.0 c.requires.1, c.move_records.auto.t)
 
 pub returns : goal.returns
 returns c =

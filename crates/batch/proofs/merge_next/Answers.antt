@@ -6,33 +6,33 @@ use Rattle.batch.proofs.merge_next.Goals as goal
 pub overflow_add-i : goal.overflow_add-i
 overflow_add-i c =
     let a = c.args in
-    omega (arith, next_at a.stride a.klen a.held a.fresh a.rec.now a.t.now _ _ c.find_in.ensures c.in-At.is)
+    omega (arith, next_at a.stride a.klen a.held a.fresh a.rec.now a.t.now _ _ c.find_in.ensures c.in-Ok.is)
 
 pub lift-requires : goal.lift-requires
 lift-requires c =
     let a = c.args in
     let p = c.requires in
-    let z = next_at a.stride a.klen a.held a.fresh a.rec.now a.t.now _ _ c.find_in.ensures c.in-At.is in
+    let z = next_at a.stride a.klen a.held a.fresh a.rec.now a.t.now _ _ c.find_in.ensures c.in-Ok.is in
     (omega arith, omega arith, p.klen_le_stride.1, p.klen_le_stride.2, p.klen_le_stride.3)
 
-pub lift-requires-in-Gap : goal.lift-requires-in-Gap
-lift-requires-in-Gap c =
+pub lift-requires-in-Err : goal.lift-requires-in-Err
+lift-requires-in-Err c =
     let a = c.args in
     let p = c.requires in
-    let z = next_gap a.stride a.klen a.held a.fresh a.rec.now a.t.now _ _ c.find_in.ensures c.in-Gap.is p.bound in
+    let z = next_gap a.stride a.klen a.held a.fresh a.rec.now a.t.now _ _ c.find_in.ensures c.in-Err.is p.bound in
     (z.0, omega (arith, z.1), p.klen_le_stride.1, p.klen_le_stride.2, p.klen_le_stride.3)
 
 pub overflow_sub-result : goal.overflow_sub-result
 overflow_sub-result c =
     let a = c.args in
-    omega (arith, (next_gap a.stride a.klen a.held a.fresh a.rec.now a.t.now _ _ c.find_in.ensures c.in-Gap.is c.requires.bound).1)
+    omega (arith, (next_gap a.stride a.klen a.held a.fresh a.rec.now a.t.now _ _ c.find_in.ensures c.in-Err.is c.requires.bound).1)
 
-pub returns-in-At : goal.returns-in-At
-returns-in-At c =
+pub returns-in-Ok : goal.returns-in-Ok
+returns-in-Ok c =
     let a = c.args in
-    next_at_done a.stride a.klen a.held a.fresh a.rec.now a.t.now _ _ c.find_in.ensures c.in-At.is _ c.lift.ensures
+    next_at_done a.stride a.klen a.held a.fresh a.rec.now a.t.now _ _ c.find_in.ensures c.in-Ok.is _ c.lift.ensures
 
-pub returns-in-Gap : goal.returns-in-Gap
-returns-in-Gap c =
+pub returns-in-Err : goal.returns-in-Err
+returns-in-Err c =
     let a = c.args in
-    next_gap_done a.stride a.klen a.held a.fresh a.rec.now a.t.now _ _ c.find_in.ensures c.in-Gap.is _ c.lift-in-Gap.ensures
+    next_gap_done a.stride a.klen a.held a.fresh a.rec.now a.t.now _ _ c.find_in.ensures c.in-Err.is _ c.lift-in-Err.ensures

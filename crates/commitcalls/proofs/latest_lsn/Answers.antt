@@ -14,12 +14,12 @@ pub latest-requires : goal.latest-requires
 latest-requires c = sym c.commits_formed.ensures ∙ c.if-not-commits_formed.false
 
 pub lsn_at-requires : goal.lsn_at-requires
-lsn_at-requires c = (sym c.commits_formed.ensures ∙ c.if-not-commits_formed.false, (place_at_lem c.args.commits.now _ _ c.latest.ensures c.in-At.i c.in-At.is).1)
+lsn_at-requires c = (sym c.commits_formed.ensures ∙ c.if-not-commits_formed.false, (place_at_lem c.args.commits.now _ _ c.latest.ensures c.in-Some.i c.in-Some.is).1)
 
-pub returns-in-At : goal.returns-in-At
-returns-in-At c =
-    field_found (λ (x : Commit). x.lsn) _ (latest_lsn_done c.args.commits.now (sym c.commits_formed.ensures ∙ c.if-not-commits_formed.false) c.args.log) (commit_at c.args.commits.now c.in-At.i) c.lsn_at.result (place_at_lem c.args.commits.now _ _ c.latest.ensures c.in-At.i c.in-At.is).0 c.lsn_at.ensures
+pub returns-in-Some : goal.returns-in-Some
+returns-in-Some c =
+    field_found (λ (x : Commit). x.lsn) _ (latest_lsn_done c.args.commits.now (sym c.commits_formed.ensures ∙ c.if-not-commits_formed.false) c.args.log) (commit_at c.args.commits.now c.in-Some.i) c.lsn_at.result (place_at_lem c.args.commits.now _ _ c.latest.ensures c.in-Some.i c.in-Some.is).0 c.lsn_at.ensures
 
-pub returns-in-Missing : goal.returns-in-Missing
-returns-in-Missing c =
-    field_missing (λ (x : Commit). x.lsn) _ (latest_lsn_done c.args.commits.now (sym c.commits_formed.ensures ∙ c.if-not-commits_formed.false) c.args.log) (place_missing c.args.commits.now _ _ c.latest.ensures c.in-Missing.is)
+pub returns-in-None : goal.returns-in-None
+returns-in-None c =
+    field_missing (λ (x : Commit). x.lsn) _ (latest_lsn_done c.args.commits.now (sym c.commits_formed.ensures ∙ c.if-not-commits_formed.false) c.args.log) (place_missing c.args.commits.now _ _ c.latest.ensures c.in-None.is)

@@ -17,12 +17,12 @@ pub find_commit-requires : goal.find_commit-requires
 find_commit-requires c = sym c.commits_formed.ensures ∙ c.if-not-commits_formed.false
 
 pub count_at-requires : goal.count_at-requires
-count_at-requires c = (sym c.commits_formed.ensures ∙ c.if-not-commits_formed.false, (place_at_lem c.args.commits.now _ _ c.find_commit.ensures c.in-At.i c.in-At.is).1)
+count_at-requires c = (sym c.commits_formed.ensures ∙ c.if-not-commits_formed.false, (place_at_lem c.args.commits.now _ _ c.find_commit.ensures c.in-Some.i c.in-Some.is).1)
 
-pub returns-in-At : goal.returns-in-At
-returns-in-At c =
-    field_found (λ (x : Commit). x.count) _ (page_count_done c.args.commits.now (sym c.commits_formed.ensures ∙ c.if-not-commits_formed.false) c.args.log c.args.lsn.0 c.if-n-eq0.false) (commit_at c.args.commits.now c.in-At.i) c.count_at.result (place_at_lem c.args.commits.now _ _ c.find_commit.ensures c.in-At.i c.in-At.is).0 c.count_at.ensures
+pub returns-in-Some : goal.returns-in-Some
+returns-in-Some c =
+    field_found (λ (x : Commit). x.count) _ (page_count_done c.args.commits.now (sym c.commits_formed.ensures ∙ c.if-not-commits_formed.false) c.args.log c.args.lsn.0 c.if-n-eq0.false) (commit_at c.args.commits.now c.in-Some.i) c.count_at.result (place_at_lem c.args.commits.now _ _ c.find_commit.ensures c.in-Some.i c.in-Some.is).0 c.count_at.ensures
 
-pub returns-in-Missing : goal.returns-in-Missing
-returns-in-Missing c =
-    field_missing (λ (x : Commit). x.count) _ (page_count_done c.args.commits.now (sym c.commits_formed.ensures ∙ c.if-not-commits_formed.false) c.args.log c.args.lsn.0 c.if-n-eq0.false) (place_missing c.args.commits.now _ _ c.find_commit.ensures c.in-Missing.is)
+pub returns-in-None : goal.returns-in-None
+returns-in-None c =
+    field_missing (λ (x : Commit). x.count) _ (page_count_done c.args.commits.now (sym c.commits_formed.ensures ∙ c.if-not-commits_formed.false) c.args.log c.args.lsn.0 c.if-n-eq0.false) (place_missing c.args.commits.now _ _ c.find_commit.ensures c.in-None.is)

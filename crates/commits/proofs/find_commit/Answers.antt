@@ -8,12 +8,12 @@ use Rattle.commits.proofs.find_commit.Goals as goal
 pub find-requires : goal.find-requires
 find-requires c = let n : length c.log_key-key.result ≡ 25 = search rules in record { stride_nonzero = (omega arith, omega arith, omega arith); t_value = formed_well commits c.args.t.now c.requires }
 
-pub returns-in-At : goal.returns-in-At
-returns-in-At c =
+pub returns-in-Ok : goal.returns-in-Ok
+returns-in-Ok c =
     let l : length c.args.log ≡ 16 = search rules in
-    found_at c.args.t.now c.requires c.args.log l c.args.lsn c.ranges.lsn.fits c.log_key-key.result c.log_key-key.ensures c.in-At.i (sym c.find.ensures ∙ c.in-At.is)
+    found_at c.args.t.now c.requires c.args.log l c.args.lsn c.ranges.lsn.fits c.log_key-key.result c.log_key-key.ensures c.in-Ok.i (sym c.find.ensures ∙ c.in-Ok.is)
 
-pub returns-in-Gap : goal.returns-in-Gap
-returns-in-Gap c =
+pub returns-in-Err : goal.returns-in-Err
+returns-in-Err c =
     let l : length c.args.log ≡ 16 = search rules in
-    found_gap c.args.t.now c.requires c.args.log l c.args.lsn c.ranges.lsn.fits c.log_key-key.result c.log_key-key.ensures c.in-Gap.field-0 (sym c.find.ensures ∙ c.in-Gap.is)
+    found_gap c.args.t.now c.requires c.args.log l c.args.lsn c.ranges.lsn.fits c.log_key-key.result c.log_key-key.ensures c.in-Err.field-0 (sym c.find.ensures ∙ c.in-Err.is)

@@ -27,4 +27,4 @@ pub copy_path-requires : goal.copy_path-requires
 copy_path-requires c = record { volumes_value = formed c.args.volumes.now c.args.commits.now c.args.checkpoints.now c.args.index.now (sym (c.if-not-tables_formed.false) ∙ c.tables_formed.ensures); is_left = (c.log_path-left.ensures.0, ap (all (other_log c.args.local)) c.log_path-left.ensures.1 ∙ others_only c.args.local _, c.if-out-ne-VOLUME.false) }
 
 pub returns : goal.returns
-returns c = leaves_same c.args.volumes.now c.args.commits.now c.args.checkpoints.now c.args.index.now c.args.out.now _ (logref_on c.args.volumes.now c.args.commits.now c.args.checkpoints.now c.args.index.now c.args.log c.args.lsn (ids c.args.vid c.args.local c.args.remote) (length c.args.out.now)) (ref_goes c.args.volumes.now c.args.commits.now c.args.checkpoints.now c.args.index.now c.args.log c.args.lsn (ids c.args.vid c.args.local c.args.remote) (length c.args.out.now) (sym (c.if-not-tables_formed.false) ∙ c.tables_formed.ensures) c.if-lsn-eq0.false c.if-out-ne-VOLUME.false _ (place_at_lem c.args.commits.now _ _ c.find_commit.ensures _ c.in-At.is).0 _ c.log_path-left.ensures.1) _ _ _ _ _ _ c.copy_path.ensures
+returns c = leaves_same c.args.volumes.now c.args.commits.now c.args.checkpoints.now c.args.index.now c.args.out.now _ (logref_on c.args.volumes.now c.args.commits.now c.args.checkpoints.now c.args.index.now c.args.log c.args.lsn (ids c.args.vid c.args.local c.args.remote) (length c.args.out.now)) (ref_goes c.args.volumes.now c.args.commits.now c.args.checkpoints.now c.args.index.now c.args.log c.args.lsn (ids c.args.vid c.args.local c.args.remote) (length c.args.out.now) (sym (c.if-not-tables_formed.false) ∙ c.tables_formed.ensures) c.if-lsn-eq0.false c.if-out-ne-VOLUME.false _ (place_at_lem c.args.commits.now _ _ c.find_commit.ensures _ c.in-Some.is).0 _ c.log_path-left.ensures.1) _ _ _ _ _ _ c.copy_path.ensures

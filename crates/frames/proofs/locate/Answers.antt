@@ -1,6 +1,5 @@
--- The frames passed end below the page, so the walk from here on finds what the whole walk finds; the sizes that are left fit. The measure is what is
--- left. Assumes nothing.
-use Rattle.std.proofs.Common.{◌≡◌, ◌+◌, ◌-◌, ◌≤◌, true, length, sym, refl, ap, ◌∙◌, arith}
+-- The frames passed end below the page, so the walk from here on finds what the whole walk finds; the sizes that are left fit. Assumes nothing.
+use Rattle.std.proofs.Common.{◌≡◌, ◌+◌, ◌≤◌, true, length, sym, refl, ap, ◌∙◌, arith}
 use Rattle.basics.specs.Numbers.{last_lsn}
 use Rattle.pageset.specs.Sets.{normal}
 use Rattle.frames.specs.Places.{place_says}
@@ -26,7 +25,7 @@ unfolding last_lsn
 loop-i-init c =
     let ok : normal c.args.s.pages ≡ true = ok_normal c.args.s c.requires in
     let m = sym c.contains.ensures ∙ c.if-not-contains.false in
-    (omega arith, omega (arith, c.before_first-below.ensures, start_least c.args.s.pages (ok) c.args.page.0 m), omega (arith, ok_sum c.args.s c.requires), refl)
+    (omega (arith, c.before_first-below.ensures, start_least c.args.s.pages (ok) c.args.page.0 m), omega (arith, ok_sum c.args.s c.requires), refl)
 
 pub offset_bounds-fs-i : goal.offset_bounds-fs-i
 offset_bounds-fs-i c = omega (arith, ok_few c.args.s c.requires)
@@ -49,20 +48,14 @@ returns-then-p-f c =
     let long : c.args.s.len ≤ length c.args.s.frames = omega (arith, long_of c.args.s _ c.well_formed.0, ok_few c.args.s c.requires) in
     let d = c.loop-i in
     let m = sym c.contains.ensures ∙ c.if-not-contains.false in
-    let e = sym (run_here c.args.s (long) d.i c.args.page.0 d.start (d.below + 1) (omega arith) c.if-p-f.true) ∙ d.invariant.3 in record { says = ap (place_says c.args.s) e ∙ run_part_lem c.args.s c.args.page.0 _ (ok) m c.before_first-below.ensures (omega arith); placed = omega arith }
-
-pub overflow_add-i : goal.overflow_add-i
-overflow_add-i c = omega arith
-
-pub loop-i-smaller : goal.loop-i-smaller
-loop-i-smaller c = omega arith
+    let e = sym (run_here c.args.s (long) d.i c.args.page.0 d.start (d.below + 1) (omega arith) c.if-p-f.true) ∙ d.invariant.2 in record { says = ap (place_says c.args.s) e ∙ run_part_lem c.args.s c.args.page.0 _ (ok) m c.before_first-below.ensures (omega arith); placed = omega arith }
 
 pub loop-i-preserved : goal.loop-i-preserved
 loop-i-preserved c =
     let long : c.args.s.len ≤ length c.args.s.frames = omega (arith, long_of c.args.s _ c.well_formed.0, ok_few c.args.s c.requires) in
     let d = c.loop-i in
     let z = total_here c.args.s (long) d.i c.args.page.0 d.start (d.below + 1) (omega arith) in
-    (omega arith, omega arith, omega (arith, z), sym (run_past c.args.s (long) d.i c.args.page.0 d.start (d.below + 1) (omega arith) (omega arith)) ∙ d.invariant.3)
+    (omega arith, omega (arith, z), sym (run_past c.args.s (long) d.i c.args.page.0 d.start (d.below + 1) (omega arith) (omega arith)) ∙ d.invariant.2)
 
 pub returns : goal.returns
 returns c =
@@ -70,4 +63,4 @@ returns c =
     let long : c.args.s.len ≤ length c.args.s.frames = omega (arith, long_of c.args.s _ c.well_formed.0, ok_few c.args.s c.requires) in
     let d = c.loop-i in
     let m = sym c.contains.ensures ∙ c.if-not-contains.false in
-    let e = sym (run_end c.args.s (long) d.i c.args.page.0 d.start (d.below + 1) (omega arith)) ∙ d.invariant.3 in record { says = ap (place_says c.args.s) e ∙ run_part_lem c.args.s c.args.page.0 _ (ok) m c.before_first-below.ensures (omega arith); placed = tt }
+    let e = sym (run_end c.args.s (long) d.i c.args.page.0 d.start (d.below + 1) (omega arith)) ∙ d.invariant.2 in record { says = ap (place_says c.args.s) e ∙ run_part_lem c.args.s c.args.page.0 _ (ok) m c.before_first-below.ensures (omega arith); placed = tt }

@@ -19,4 +19,4 @@ returns c =
     let g = given (pages_of (commit_at c.args.commits.now c.args.i).segment) c.args.left.now in
     c.set_read.ensures
     ∙ ap (λ (f : List ℕ). set_laid (set_bytes.read (part 0 385 f))) (c.put_gift.ensures ∙ ap (λ (p : Pages). put 0 (set_bytes.spell p) (replicate 385 0)) (sym (says_laid g)))
-    ∙ set_read_again (replicate 385 0) 0 (omega (arith, length-replicate {A = ℕ} 385 0)) (set_laid g) (laid_normal g c.requires.left_value.0)
+    ∙ set_read_again (replicate 385 0) 0 (omega (arith, length-replicate {A = ℕ} 385 0)) (set_laid g) (laid_normal g c.requires.left_value)

@@ -1,10 +1,8 @@
 -- The step from `from` on is that from k on, and the notes are those of the commits before number k. Without a place it is the end; an empty gift goes on to the next number. The measure is the commits
 -- that are left.
-use Rattle.std.specs.Prelude.{◌-◌}
 use mathlib.Core.Path.{refl, sym, ap, ◌∙◌}
 use native.Mathlib.Omega.{arith}
 use borrow.Author.Tests.{not-true, not-false}
-use borrow.Author.Rules.{rules}
 use Rattle.table.specs.Table.{count_of}
 use Rattle.rules.specs.Records.{Pages}
 use Rattle.gifts.specs.Paths.{places_in}
@@ -14,59 +12,38 @@ use Rattle.gifts.proofs.HeldLaws.{known_next}
 use Rattle.gifts.proofs.next_gift.Goals as goal
 
 pub loop-i-init : goal.loop-i-init
-loop-i-init c = (refl, c.requires.known.0, c.requires.known.1)
-
-pub shape_of-tags-in_default : goal.shape_of-tags-in_default
-shape_of-tags-in_default c = c.loop-i.invariant.1.places ∙ sym c.requires.known.0.places
-
-pub shape_of-masks-in_default : goal.shape_of-masks-in_default
-shape_of-masks-in_default c = c.loop-i.invariant.1.pages ∙ sym c.requires.known.0.pages
-
-pub shape_of-marks-in_default : goal.shape_of-marks-in_default
-shape_of-marks-in_default c = c.loop-i.invariant.1.words ∙ sym c.requires.known.0.words
-
-pub shape_of-left-in_default : goal.shape_of-left-in_default
-shape_of-left-in_default c = c.loop-i.invariant.2 ∙ sym c.requires.known.1
+loop-i-init c = (refl, c.requires.known)
 
 pub returns-in_default : goal.returns-in_default
 returns-in_default c = let l = c.loop-i in
-    let e = l.invariant.0 ∙ step_end c.args.commits.now (places_in c.args.path.runs) c.args.count.0 l.k (sym c.place_at.ensures ∙ c.in_default.is) in record { value = sym (ap (λ (x : Step × Pages). x.0) e); gift_in = gift_in_none c.args.commits.now l.left _; known_2 = l.invariant.1 }
+    let e = l.invariant.0 ∙ step_end c.args.commits.now (places_in c.args.path.runs) c.args.count.0 l.k (sym c.at.ensures ∙ c.in_default.is) in record { value = sym (ap (λ (x : Step × Pages). x.0) e); gift_in = gift_in_none c.args.commits.now l.left _; known_2 = l.invariant.1 }
 
 pub make_gift-some-requires : goal.make_gift-some-requires
 make_gift-some-requires c = let ps = places_in c.args.path.runs in
     let l = c.loop-i in
-    let p = sym c.place_at.ensures ∙ c.in-At.is in record { commits_value = (c.requires.commits_value.0, c.requires.commits_value.1, place_below (count_of c.args.commits.now) l.k c.in-At.i ps c.requires.commits_value.1.below p, omega (arith, place_few l.k c.in-At.i ps p)); known = (l.invariant.1, l.invariant.2) }
+    let p = sym c.at.ensures ∙ c.in-Some.is in record { commits_value = (c.requires.commits_value.0, c.requires.commits_value.1, place_below (count_of c.args.commits.now) l.k c.in-Some.i ps c.requires.commits_value.1.below p, omega (arith, place_few l.k c.in-Some.i ps p)); known = l.invariant.1 }
 
 pub overflow_add-k : goal.overflow_add-k
-overflow_add-k c = omega (arith, place_few c.loop-i.k c.in-At.i (places_in c.args.path.runs) (sym c.place_at.ensures ∙ c.in-At.is), c.requires.commits_value.1.few)
-
-pub shape_of-tags-then-some : goal.shape_of-tags-then-some
-shape_of-tags-then-some c = c.make_gift-some.ensures.known_2.places ∙ sym c.requires.known.0.places
-
-pub shape_of-masks-then-some : goal.shape_of-masks-then-some
-shape_of-masks-then-some c = c.make_gift-some.ensures.known_2.pages ∙ sym c.requires.known.0.pages
-
-pub shape_of-marks-then-some : goal.shape_of-marks-then-some
-shape_of-marks-then-some c = c.make_gift-some.ensures.known_2.words ∙ sym c.requires.known.0.words
+overflow_add-k c = omega (arith, place_few c.loop-i.k c.in-Some.i (places_in c.args.path.runs) (sym c.at.ensures ∙ c.in-Some.is), c.requires.commits_value.1.few)
 
 pub returns-then-some : goal.returns-then-some
 returns-then-some c = let t = c.args.commits.now in
     let ps = places_in c.args.path.runs in
     let l = c.loop-i in
-    let i = c.in-At.i in
-    let p = sym c.place_at.ensures ∙ c.in-At.is in
+    let i = c.in-Some.i in
+    let p = sym c.at.ensures ∙ c.in-Some.is in
     let m = c.make_gift-some.ensures in
-    let e = l.invariant.0 ∙ step_here t ps c.args.count.0 l.k i p (not-true _ (sym m.value ∙ c.if-some.true)) in record { value = sym (ap (λ (x : Step × Pages). x.0) e); gift_in = gift_in t i _ _ (m.left_after ∙ sym (ap (λ (x : Step × Pages). x.1) e)); known_2 = known_next t ps l.k i p _ _ _ m.known_2 }
+    let e = l.invariant.0 ∙ step_here t ps c.args.count.0 l.k i p (not-true _ (sym m.value ∙ c.if-some.true)) in record { value = sym (ap (λ (x : Step × Pages). x.0) e); gift_in = gift_in t i _ _ (m.left_after ∙ sym (ap (λ (x : Step × Pages). x.1) e)); known_2 = known_next t ps l.k i p _ m.known_2 }
 
 pub loop-i-smaller : goal.loop-i-smaller
-loop-i-smaller c = omega (arith, place_few c.loop-i.k c.in-At.i (places_in c.args.path.runs) (sym c.place_at.ensures ∙ c.in-At.is))
+loop-i-smaller c = omega (arith, place_few c.loop-i.k c.in-Some.i (places_in c.args.path.runs) (sym c.at.ensures ∙ c.in-Some.is))
 
 pub loop-i-preserved : goal.loop-i-preserved
 loop-i-preserved c =
     let t = c.args.commits.now in
     let ps = places_in c.args.path.runs in
     let l = c.loop-i in
-    let i = c.in-At.i in
-    let p = sym c.place_at.ensures ∙ c.in-At.is in
+    let i = c.in-Some.i in
+    let p = sym c.at.ensures ∙ c.in-Some.is in
     let m = c.make_gift-some.ensures in
-    (l.invariant.0 ∙ step_on t ps c.args.count.0 l.k i p (not-false _ (sym m.value ∙ c.if-some.false)), known_next t ps l.k i p _ _ _ m.known_2, search rules)
+    (l.invariant.0 ∙ step_on t ps c.args.count.0 l.k i p (not-false _ (sym m.value ∙ c.if-some.false)), known_next t ps l.k i p _ m.known_2)

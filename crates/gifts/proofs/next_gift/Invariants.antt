@@ -9,7 +9,7 @@ use Rattle.gifts.proofs.next_gift.Given as goal
 
 abbrev pub invariant-loop-i : goal.invariant-loop-i
 invariant-loop-i l =
-    (step_from l.commits l.count.0 (places_in l.path.runs) l.from ≡ step_from l.commits l.count.0 (places_in l.path.runs) l.k) × Known (held_by (before l.k (commits_at l.commits (places_in l.path.runs)))) l.tags l.masks l.marks × (length l.left ≡ 32)
+    (step_from l.commits l.count.0 (places_in l.path.runs) l.from ≡ step_from l.commits l.count.0 (places_in l.path.runs) l.k) × Known (held_by (before l.k (commits_at l.commits (places_in l.path.runs)))) l.notes
 
 abbrev pub decreases-loop-i : goal.decreases-loop-i
 decreases-loop-i l = length (places_in l.path.runs) - l.k

@@ -1,12 +1,12 @@
--- The invariant: n commits have the first i ranges, at most 65535 each. The measure is how many ranges are left. Assumes nothing.
-use Rattle.std.proofs.Common.{◌≡◌, ℕ, ◌+◌, ◌-◌, length, refl, ap, ◌∙◌, arith, rules}
+-- The invariant: n commits have the first i ranges, at most 65535 each. Assumes nothing.
+use Rattle.std.proofs.Common.{◌≡◌, ℕ, ◌+◌, length, refl, ap, ◌∙◌, arith, rules}
 use Rattle.listcalls.specs.Runs.{first_commits}
 use Rattle.listcalls.proofs.RangeLaws.{run_number, run_few}
 use Rattle.listcalls.proofs.PathLaws.{turn_count}
 use Rattle.listcalls.proofs.count_commits.Goals as goal
 
 pub loop-i-init : goal.loop-i-init
-loop-i-init c = (omega arith, refl, omega arith)
+loop-i-init c = (refl, omega arith)
 
 pub offset_bounds-path-i : goal.offset_bounds-path-i
 offset_bounds-path-i c = omega arith
@@ -25,19 +25,12 @@ overflow_add-n c =
     let few = run_few c.args.commits.now c.requires.0 _ c.places_of-run.result.from c.places_of-run.result.to c.places_of-run.ensures in
     omega arith
 
-pub overflow_add-i : goal.overflow_add-i
-overflow_add-i c = omega arith
-
-pub loop-i-smaller : goal.loop-i-smaller
-loop-i-smaller c = omega arith
-
 pub loop-i-preserved : goal.loop-i-preserved
 loop-i-preserved c =
     let long : length c.args.path ≡ 8 = search rules in
     let few = run_few c.args.commits.now c.requires.0 _ c.places_of-run.result.from c.places_of-run.result.to c.places_of-run.ensures in
     let size = long in (
-      omega arith,
-      ap (λ (m : ℕ). c.loop-i.n + m) (run_number c.args.commits.now c.requires.0 _ c.places_of-run.result.from c.places_of-run.result.to c.places_of-run.ensures) ∙ turn_count c.args.commits.now c.args.path c.loop-i.i _ c.loop-i.n c.loop-i.invariant.1 (omega arith),
+      ap (λ (m : ℕ). c.loop-i.n + m) (run_number c.args.commits.now c.requires.0 _ c.places_of-run.result.from c.places_of-run.result.to c.places_of-run.ensures) ∙ turn_count c.args.commits.now c.args.path c.loop-i.i _ c.loop-i.n c.loop-i.invariant.0 (omega arith),
       omega arith,
     )
 
@@ -45,4 +38,4 @@ pub returns : goal.returns
 returns c =
     let e : c.loop-i.i ≡ c.args.len = omega arith in
     let n = ap (λ (k : ℕ). length (first_commits c.args.commits.now k c.args.path)) e in
-    (c.loop-i.invariant.1 ∙ n, omega arith)
+    (c.loop-i.invariant.0 ∙ n, omega arith)

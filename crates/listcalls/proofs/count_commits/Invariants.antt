@@ -1,10 +1,7 @@
--- The invariant: n commits have the first i ranges, at most 65535 each. The measure is how many ranges are left. Assumes nothing.
-use Rattle.std.proofs.Common.{◌≡◌, ◌-◌, ◌*◌, ◌≤◌, length}
+-- The invariant: n commits have the first i ranges, at most 65535 each. Assumes nothing.
+use Rattle.std.proofs.Common.{◌≡◌, ◌*◌, ◌≤◌, length}
 use Rattle.listcalls.specs.Runs.{first_commits}
 use Rattle.listcalls.proofs.count_commits.Given as goal
 
 abbrev pub invariant-loop-i : goal.invariant-loop-i
-invariant-loop-i l = (l.i ≤ l.len) × (l.n ≡ length (first_commits l.commits l.i l.path)) × (l.n ≤ l.i * 65535)
-
-abbrev pub decreases-loop-i : goal.decreases-loop-i
-decreases-loop-i l = l.len - l.i
+invariant-loop-i l = (l.n ≡ length (first_commits l.commits l.i l.path)) × (l.n ≤ l.i * 65535)

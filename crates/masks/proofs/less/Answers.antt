@@ -13,75 +13,15 @@ use Rattle.masks.proofs.less.Goals as goal
 pub loop-i-init : goal.loop-i-init
 loop-i-init c = (omega arith, omega arith, omega arith, refl)
 
-pub shape_of-masks-then-m-j : goal.shape_of-masks-then-m-j
-shape_of-masks-then-m-j c = omega arith
-
 pub returns-then-m-j : goal.returns-then-m-j
 returns-then-m-j c =
     let l = c.loop-i in
     sym (less_over c.args.n c.args.at c.args.m c.args.other c.args.s.now l.i l.j l.masks c.if-m-j.true) ∙ l.invariant.3
 
-pub overflow_mul-i : goal.overflow_mul-i
-overflow_mul-i c = omega arith
-
-pub overflow_add-at : goal.overflow_add-at
-overflow_add-at c = omega arith
-
-pub load32-x-requires : goal.load32-x-requires
-load32-x-requires c = omega arith
-
-pub overflow_mul-j : goal.overflow_mul-j
-overflow_mul-j c = omega arith
-
-pub overflow_add-other : goal.overflow_add-other
-overflow_add-other c = omega arith
-
-pub load32-y-requires : goal.load32-y-requires
-load32-y-requires c = omega arith
-
-pub overflow_add-i : goal.overflow_add-i
-overflow_add-i c = omega arith
-
-pub loop-i-smaller-then-x-y : goal.loop-i-smaller-then-x-y
-loop-i-smaller-then-x-y c = omega arith
-
 pub loop-i-preserved-then-x-y : goal.loop-i-preserved-then-x-y
 loop-i-preserved-then-x-y c =
     let l = c.loop-i in
     (omega arith, omega arith, l.invariant.2, less_lower c.args.n c.args.at c.args.m c.args.other c.args.s.now l.i l.j l.masks c.requires.s_value.0 c.requires.s_value.1 (omega arith) (omega arith) (omega arith) (omega (arith, c.load32-x.ensures, c.load32-y.ensures)) ∙ l.invariant.3)
-
-pub offset_bounds-masks-i : goal.offset_bounds-masks-i
-offset_bounds-masks-i c = omega arith
-
-pub bounds-masks-i : goal.bounds-masks-i
-bounds-masks-i c = omega arith
-
-pub overflow_mul-j-then-x-y-2 : goal.overflow_mul-j-then-x-y-2
-overflow_mul-j-then-x-y-2 c = omega arith
-
-pub overflow_add-other-then-x-y-2 : goal.overflow_add-other-then-x-y-2
-overflow_add-other-then-x-y-2 c = omega arith
-
-pub overflow_add-other-then-x-y-2-2 : goal.overflow_add-other-then-x-y-2-2
-overflow_add-other-then-x-y-2-2 c = omega arith
-
-pub load64-requires : goal.load64-requires
-load64-requires c = omega arith
-
-pub offset_bounds-masks-i-then-x-y-2 : goal.offset_bounds-masks-i-then-x-y-2
-offset_bounds-masks-i-then-x-y-2 c = omega arith
-
-pub bounds-masks-i-then-x-y-2 : goal.bounds-masks-i-then-x-y-2
-bounds-masks-i-then-x-y-2 c = omega arith
-
-pub overflow_add-i-then-x-y-2 : goal.overflow_add-i-then-x-y-2
-overflow_add-i-then-x-y-2 c = omega arith
-
-pub overflow_add-j : goal.overflow_add-j
-overflow_add-j c = omega arith
-
-pub loop-i-smaller-then-x-y-2 : goal.loop-i-smaller-then-x-y-2
-loop-i-smaller-then-x-y-2 c = omega arith
 
 pub loop-i-preserved-then-x-y-2 : goal.loop-i-preserved-then-x-y-2
 loop-i-preserved-then-x-y-2 c =
@@ -96,19 +36,10 @@ loop-i-preserved-then-x-y-2 c =
       less_same c.args.n c.args.at c.args.m c.args.other c.args.s.now l.i l.j l.masks c.requires.s_value.0 c.requires.s_value.1 (omega arith) (omega arith) (omega arith) (bit_and x (18446744073709551615 - y)) (omega (arith, c.load32-x.ensures, c.load32-y.ensures)) e ∙ l.invariant.3,
     )
 
-pub overflow_add-j-else-x-y-2 : goal.overflow_add-j-else-x-y-2
-overflow_add-j-else-x-y-2 c = omega arith
-
-pub loop-i-smaller : goal.loop-i-smaller
-loop-i-smaller c = omega arith
-
 pub loop-i-preserved : goal.loop-i-preserved
 loop-i-preserved c =
     let l = c.loop-i in
     (omega arith, omega arith, l.invariant.2, less_higher c.args.n c.args.at c.args.m c.args.other c.args.s.now l.i l.j l.masks c.requires.s_value.0 c.requires.s_value.1 (omega arith) (omega arith) (omega arith) (omega (arith, c.load32-x.ensures, c.load32-y.ensures)) ∙ l.invariant.3)
-
-pub shape_of-masks : goal.shape_of-masks
-shape_of-masks c = omega arith
 
 pub returns : goal.returns
 returns c =

@@ -10,7 +10,7 @@ use Rattle.missingcalls.proofs.count_missing.Given as goal
 
 abbrev pub invariant-loop-i : goal.invariant-loop-i
 invariant-loop-i l =
-    (l.n + length (missing_of (presence_in l.presence) (items_from l.commits l.count.0 (places_in l.path.runs) l.k)) ≡ length (missing_of (presence_in l.presence) (items_from l.commits l.count.0 (places_in l.path.runs) 0))) × (length l.none ≡ 1) × Known (held_by (before l.k (commits_at l.commits (places_in l.path.runs)))) l.tags l.masks l.marks
+    (l.n + length (missing_of (presence_in l.presence) (items_from l.commits l.count.0 (places_in l.path.runs) l.k)) ≡ length (missing_of (presence_in l.presence) (items_from l.commits l.count.0 (places_in l.path.runs) 0))) × (length l.none ≡ 1) × Known (held_by (before l.k (commits_at l.commits (places_in l.path.runs)))) l.notes
 
 abbrev pub decreases-loop-i : goal.decreases-loop-i
 decreases-loop-i l = length (places_in l.path.runs) - l.k

@@ -8,8 +8,8 @@ use Rattle.missingcalls.proofs.is_missing.Goals as goal
 pub returns-then-common-eq0 : goal.returns-then-common-eq0
 returns-then-common-eq0 c = not_met (presence_in c.args.presence.now) c.args.range c.args.gift c.cut-both.result.common c.requires.1 c.cut-both.ensures.1 c.if-common-eq0.true
 
-pub returns-in-At : goal.returns-in-At
-returns-in-At c = by_first (presence_in c.args.presence.now) c.args.range c.args.gift c.cut-both.result.common c.requires.1 c.cut-both.ensures.1 c.if-common-eq0.false c.first-first.result c.first-first.ensures c.in-At.page.0 c.is_present.result (ap maybe_page_says c.in-At.is) c.is_present.ensures
+pub returns-in-Some : goal.returns-in-Some
+returns-in-Some c = by_first (presence_in c.args.presence.now) c.args.range c.args.gift c.cut-both.result.common c.requires.1 c.cut-both.ensures.1 c.if-common-eq0.false c.first-first.result c.first-first.ensures c.in-Some.page.0 c.is_present.result (ap maybe_page_says c.in-Some.is) c.is_present.ensures
 
-pub returns-in-Nothing : goal.returns-in-Nothing
-returns-in-Nothing c = no_first (presence_in c.args.presence.now) c.args.range c.args.gift c.cut-both.result.common c.requires.1 c.cut-both.ensures.1 c.if-common-eq0.false c.first-first.result c.first-first.ensures (ap maybe_page_says c.in-Nothing.is)
+pub returns-in-None : goal.returns-in-None
+returns-in-None c = no_first (presence_in c.args.presence.now) c.args.range c.args.gift c.cut-both.result.common c.requires.1 c.cut-both.ensures.1 c.if-common-eq0.false c.first-first.result c.first-first.ensures (ap maybe_page_says c.in-None.is)

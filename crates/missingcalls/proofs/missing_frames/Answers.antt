@@ -18,17 +18,17 @@ returns-then-not-presence_formed c = no_table c.args.commits.now c.args.presence
 pub returns-then-code-ne0 : goal.returns-then-code-ne0
 returns-then-code-ne0 c = no_snapshot c.args.commits.now c.args.presence.now c.args.snapshot.now c.args.list.now c.args.items.now (sym c.commits_formed.ensures ∙ c.if-not-commits_formed.false) (sym c.presence_formed.ensures ∙ c.if-not-presence_formed.false) c.snapshot_code-code.result c.snapshot_code-code.ensures c.if-code-ne0.true
 
-pub path_of-path-requires : goal.path_of-path-requires
-path_of-path-requires c = ((sym c.commits_formed.ensures ∙ c.if-not-commits_formed.false), arg_few c.args.snapshot.now c.snapshot_arg-s.result c.snapshot_arg-s.ensures)
+pub of-path-requires : goal.of-path-requires
+of-path-requires c = ((sym c.commits_formed.ensures ∙ c.if-not-commits_formed.false), arg_few c.args.snapshot.now c.snapshot_arg-s.result c.snapshot_arg-s.ensures)
 
 pub count_missing-requires : goal.count_missing-requires
-count_missing-requires c = ((sym c.commits_formed.ensures ∙ c.if-not-commits_formed.false), (sym c.presence_formed.ensures ∙ c.if-not-presence_formed.false), c.path_of-path.ensures.inside)
+count_missing-requires c = ((sym c.commits_formed.ensures ∙ c.if-not-commits_formed.false), (sym c.presence_formed.ensures ∙ c.if-not-presence_formed.false), c.of-path.ensures.inside)
 
 pub returns-then-list-count_missing : goal.returns-then-list-count_missing
-returns-then-list-count_missing c = no_room c.args.commits.now c.args.presence.now c.args.snapshot.now c.args.list.now c.args.items.now (sym c.commits_formed.ensures ∙ c.if-not-commits_formed.false) (sym c.presence_formed.ensures ∙ c.if-not-presence_formed.false) c.snapshot_code-code.result c.snapshot_code-code.ensures c.if-code-ne0.false (missing_of (presence_in c.args.presence.now) (items_from c.args.commits.now c.snapshot_arg-s.result.count.0 (places_in c.path_of-path.result.runs) 0)) (ap (missing_of (presence_in c.args.presence.now)) (arg_items c.args.snapshot.now c.snapshot_arg-s.result c.snapshot_arg-s.ensures c.args.commits.now c.path_of-path.result.runs c.path_of-path.ensures)) (ap (λ (n : ℕ). leb n (length c.args.list.now / 417)) (sym c.count_missing.ensures) ∙ lt-leb c.count_missing.result (length c.args.list.now / 417) c.if-list-count_missing.true)
+returns-then-list-count_missing c = no_room c.args.commits.now c.args.presence.now c.args.snapshot.now c.args.list.now c.args.items.now (sym c.commits_formed.ensures ∙ c.if-not-commits_formed.false) (sym c.presence_formed.ensures ∙ c.if-not-presence_formed.false) c.snapshot_code-code.result c.snapshot_code-code.ensures c.if-code-ne0.false (missing_of (presence_in c.args.presence.now) (items_from c.args.commits.now c.snapshot_arg-s.result.count.0 (places_in c.of-path.result.runs) 0)) (ap (missing_of (presence_in c.args.presence.now)) (arg_items c.args.snapshot.now c.snapshot_arg-s.result c.snapshot_arg-s.ensures c.args.commits.now c.of-path.result.runs c.of-path.ensures)) (ap (λ (n : ℕ). leb n (length c.args.list.now / 417)) (sym c.count_missing.ensures) ∙ lt-leb c.count_missing.result (length c.args.list.now / 417) c.if-list-count_missing.true)
 
 pub put_missing-n-requires : goal.put_missing-n-requires
-put_missing-n-requires c = record { commits_value = ((sym c.commits_formed.ensures ∙ c.if-not-commits_formed.false), (sym c.presence_formed.ensures ∙ c.if-not-presence_formed.false), c.path_of-path.ensures.inside); runs_in_bounds = omega (arith, c.count_missing.ensures) }
+put_missing-n-requires c = record { commits_value = ((sym c.commits_formed.ensures ∙ c.if-not-commits_formed.false), (sym c.presence_formed.ensures ∙ c.if-not-presence_formed.false), c.of-path.ensures.inside); runs_in_bounds = omega (arith, c.count_missing.ensures) }
 
 pub returns : goal.returns
-returns c = listed c.args.commits.now c.args.presence.now c.args.snapshot.now c.args.list.now c.args.items.now (sym c.commits_formed.ensures ∙ c.if-not-commits_formed.false) (sym c.presence_formed.ensures ∙ c.if-not-presence_formed.false) c.snapshot_code-code.result c.snapshot_code-code.ensures c.if-code-ne0.false (missing_of (presence_in c.args.presence.now) (items_from c.args.commits.now c.snapshot_arg-s.result.count.0 (places_in c.path_of-path.result.runs) 0)) (ap (missing_of (presence_in c.args.presence.now)) (arg_items c.args.snapshot.now c.snapshot_arg-s.result c.snapshot_arg-s.ensures c.args.commits.now c.path_of-path.result.runs c.path_of-path.ensures)) (ap (λ (n : ℕ). leb n (length c.args.list.now / 417)) (sym c.count_missing.ensures) ∙ le-leb c.count_missing.result (length c.args.list.now / 417) (omega arith)) _ _ c.put_missing-n.ensures.list_after c.put_missing-n.ensures.value.0
+returns c = listed c.args.commits.now c.args.presence.now c.args.snapshot.now c.args.list.now c.args.items.now (sym c.commits_formed.ensures ∙ c.if-not-commits_formed.false) (sym c.presence_formed.ensures ∙ c.if-not-presence_formed.false) c.snapshot_code-code.result c.snapshot_code-code.ensures c.if-code-ne0.false (missing_of (presence_in c.args.presence.now) (items_from c.args.commits.now c.snapshot_arg-s.result.count.0 (places_in c.of-path.result.runs) 0)) (ap (missing_of (presence_in c.args.presence.now)) (arg_items c.args.snapshot.now c.snapshot_arg-s.result c.snapshot_arg-s.ensures c.args.commits.now c.of-path.result.runs c.of-path.ensures)) (ap (λ (n : ℕ). leb n (length c.args.list.now / 417)) (sym c.count_missing.ensures) ∙ le-leb c.count_missing.result (length c.args.list.now / 417) (omega arith)) _ _ c.put_missing-n.ensures.list_after c.put_missing-n.ensures.value.0

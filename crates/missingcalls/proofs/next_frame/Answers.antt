@@ -1,5 +1,5 @@
--- Those missing from `from` on are those from j on. The measure is the frames that are left.
-use Rattle.std.proofs.Common.{◌-◌, sym, refl, ◌∙◌, arith}
+-- Those missing from `from` on are those from j on.
+use Rattle.std.proofs.Common.{sym, refl, ◌∙◌, arith}
 use Rattle.pageset.specs.Sets.{shown}
 use Rattle.commit.specs.Says.{range_says}
 use Rattle.layout.specs.Tables.{presence_in}
@@ -29,8 +29,8 @@ frame_in-range-requires c =
     let w = c.row-at in
     frame_asked c.args.commits.now c.requires.0 c.args.i c.requires.2.0 c.requires.2.1 w.result w.ensures n.result n.ensures l.j (omega arith)
 
-pub overflow_add-j : goal.overflow_add-j
-overflow_add-j c =
+pub overflow_add-result : goal.overflow_add-result
+overflow_add-result c =
     let l = c.loop-j in
     let n = c.frames_count-n in
     let w = c.row-at in
@@ -51,9 +51,6 @@ returns-then-is_missing c =
       next =
           (l.invariant ∙ frame_yes (presence_in c.args.presence.now) (shown c.args.gift) (frames_at c.args.commits.now c.args.i) l.j (range_says f.result) h.says (sym c.is_missing.ensures ∙ c.if-is_missing.true), frame_fit (frames_at c.args.commits.now c.args.i) l.j f.result h);
     }
-
-pub loop-j-smaller : goal.loop-j-smaller
-loop-j-smaller c = omega arith
 
 pub loop-j-preserved : goal.loop-j-preserved
 loop-j-preserved c =

@@ -1,5 +1,5 @@
--- Those missing from `from` on are those from j on. The measure is the frames that are left.
-use Rattle.std.proofs.Common.{◌≡◌, ◌-◌}
+-- Those missing from `from` on are those from j on.
+use Rattle.std.proofs.Common.{◌≡◌}
 use Rattle.pageset.specs.Sets.{shown}
 use Rattle.layout.specs.Tables.{presence_in}
 use Rattle.missingcalls.specs.Cursors.{frames_at, frames_left}
@@ -7,6 +7,3 @@ use Rattle.missingcalls.proofs.next_frame.Given as goal
 
 abbrev pub invariant-loop-j : goal.invariant-loop-j
 invariant-loop-j l = frames_left (presence_in l.presence) (shown l.gift) (frames_at l.commits l.i) l.from ≡ frames_left (presence_in l.presence) (shown l.gift) (frames_at l.commits l.i) l.j
-
-abbrev pub decreases-loop-j : goal.decreases-loop-j
-decreases-loop-j l = l.n - l.j

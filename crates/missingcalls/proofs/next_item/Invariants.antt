@@ -10,7 +10,7 @@ use Rattle.missingcalls.proofs.next_item.Given as goal
 
 abbrev pub invariant-loop-i : goal.invariant-loop-i
 invariant-loop-i l =
-    (missing_of (presence_in l.presence) (items_from l.commits l.count.0 (places_in l.path.runs) l.from) ≡ missing_of (presence_in l.presence) (items_from l.commits l.count.0 (places_in l.path.runs) l.next)) × Known (held_by (before l.next (commits_at l.commits (places_in l.path.runs)))) l.tags l.masks l.marks
+    (missing_of (presence_in l.presence) (items_from l.commits l.count.0 (places_in l.path.runs) l.from) ≡ missing_of (presence_in l.presence) (items_from l.commits l.count.0 (places_in l.path.runs) l.next)) × Known (held_by (before l.next (commits_at l.commits (places_in l.path.runs)))) l.notes
 
 abbrev pub decreases-loop-i : goal.decreases-loop-i
 decreases-loop-i l = length (places_in l.path.runs) - l.next

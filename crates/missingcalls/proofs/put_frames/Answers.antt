@@ -1,5 +1,5 @@
--- The entries put are those of the frames before j, as far as there are places, and all of them are counted (`Filling`). The measure is the frames that are left.
-use Rattle.std.proofs.Common.{◌-◌, arith}
+-- The entries put are those of the frames before j, as far as there are places, and all of them are counted (`Filling`).
+use Rattle.std.proofs.Common.{arith}
 use Rattle.pageset.specs.Sets.{shown}
 use Rattle.rules.specs.Walk.{is_missing}
 use Rattle.commit.specs.Says.{range_says}
@@ -39,16 +39,6 @@ put_frame-to-requires c =
     let n = c.frames_count-n in
     let w = c.row-at in
     (c.requires.commits_value.1, c.frame_in.ensures.normal, c.requires.commits_value.3, omega (arith, l.invariant.0, c.requires.from_bound, row_few c.args.commits.now c.requires.commits_value.0 c.args.i c.requires.commits_value.2.0 c.requires.commits_value.2.1 w.result w.ensures n.result n.ensures))
-
-pub overflow_add-j : goal.overflow_add-j
-overflow_add-j c =
-    let l = c.loop-j in
-    let n = c.frames_count-n in
-    let w = c.row-at in
-    omega (arith, row_few c.args.commits.now c.requires.commits_value.0 c.args.i c.requires.commits_value.2.0 c.requires.commits_value.2.1 w.result w.ensures n.result n.ensures)
-
-pub loop-j-smaller : goal.loop-j-smaller
-loop-j-smaller c = omega arith
 
 pub loop-j-preserved : goal.loop-j-preserved
 loop-j-preserved c =

@@ -12,7 +12,7 @@ use Rattle.missingcalls.proofs.put_missing.Given as goal
 
 abbrev pub invariant-loop-i : goal.invariant-loop-i
 invariant-loop-i l =
-    Putting part_bytes 417 l.initial.list (missing_of (presence_in l.presence) (items_from l.commits l.count.0 (places_in l.path.runs) 0)) l.n l.list (missing_of (presence_in l.presence) (items_from l.commits l.count.0 (places_in l.path.runs) l.k)) × Known (held_by (before l.k (commits_at l.commits (places_in l.path.runs)))) l.tags l.masks l.marks
+    Putting part_bytes 417 l.initial.list (missing_of (presence_in l.presence) (items_from l.commits l.count.0 (places_in l.path.runs) 0)) l.n l.list (missing_of (presence_in l.presence) (items_from l.commits l.count.0 (places_in l.path.runs) l.k)) × Known (held_by (before l.k (commits_at l.commits (places_in l.path.runs)))) l.notes
 
 abbrev pub decreases-loop-i : goal.decreases-loop-i
 decreases-loop-i l = length (places_in l.path.runs) - l.k

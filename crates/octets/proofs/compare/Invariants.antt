@@ -1,13 +1,10 @@
--- `octets::compare` meets its contract. The invariant: the first i bytes are the same; the measure: n - i.
+-- `octets::compare` meets its contract. The invariant: the words so far are the same.
 use mathlib.Core.Path.{◌≡◌}
-use Prim.Native.Nat.{◌-◌, ◌≤◌}
+use Prim.Native.Nat.{◌*◌}
 use Rattle.octets.specs.Bytes.{part}
 use Rattle.octets.specs.Order.{lex}
-use Rattle.octets.specs.declared.Order.TheVariants.{Equal}
+use Rattle.std.proofs.Common.{Equal}
 use Rattle.octets.proofs.compare.Given as goal
 
-abbrev pub invariant-loop-i : goal.invariant-loop-i
-invariant-loop-i l = (l.i ≤ l.n) × (lex (part l.at l.i l.a) (part l.bt l.i l.b) ≡ Equal)
-
-abbrev pub decreases-loop-i : goal.decreases-loop-i
-decreases-loop-i l = l.n - l.i
+abbrev pub invariant-loop-word : goal.invariant-loop-word
+invariant-loop-word l = lex (part l.at (8 * l.word) l.a) (part l.bt (8 * l.word) l.b) ≡ Equal

@@ -1,17 +1,16 @@
--- `octets::compare_bytes` meets its contract. The invariant: the first i bytes are the same; the measure: how many are left.
-use borrow.Author.Rules.{rules}
+-- `octets::compare_bytes` meets its contract. The invariant: the first i bytes are the same.
 use native.Mathlib.Omega.{arith}
 use mathlib.Core.Path.{◌≡◌, refl, sym, ◌∙◌}
-use Prim.Native.Nat.{◌+◌, ◌-◌}
+use Prim.Native.Nat.{◌+◌}
 use Rattle.octets.specs.Bytes.{part, AreBytes}
 use Rattle.octets.specs.Order.{order, lex}
-use Rattle.octets.specs.declared.Order.TheVariants.{Less, Greater}
+use Rattle.std.proofs.Common.{Less, Greater}
 use Rattle.octets.proofs.Orders.{order_less, order_equal, order_greater}
 use Rattle.octets.proofs.Turns.{no_bytes, decided, by_word}
 use Rattle.octets.proofs.compare_bytes.Goals as goal
 
 pub loop-i-init : goal.loop-i-init
-loop-i-init c = (search rules, no_bytes c.args.a.now c.args.b.now c.args.at c.args.bt)
+loop-i-init c = no_bytes c.args.a.now c.args.b.now c.args.at c.args.bt
 
 pub returns-then-x-y : goal.returns-then-x-y
 returns-then-x-y c =
@@ -20,7 +19,7 @@ returns-then-x-y c =
     let p : AreBytes a.a.now = λ j. omega (arith, c.type_inv.a j) in
     let q : AreBytes a.b.now = λ j. omega (arith, c.type_inv.b j) in
     let l = c.loop-i in
-    by_word a.a.now a.b.now a.at a.bt p q l.i 1 _ _ (omega arith) (omega arith) l.invariant.1 c.load8-x.ensures c.load8-y.ensures in
+    by_word a.a.now a.b.now a.at a.bt p q l.i 1 _ _ (omega arith) (omega arith) l.invariant c.load8-x.ensures c.load8-y.ensures in
     let a = c.args in
     let i = c.loop-i.i in
     sym (decided a.a.now a.b.now a.at a.bt (i + 1) a.n Less (omega arith) (omega arith) (omega arith) (byte ∙ order_less _ _ c.if-x-y.true) refl)
@@ -31,7 +30,7 @@ returns-then-y-x c =
     let p : AreBytes a.a.now = λ j. omega (arith, c.type_inv.a j) in
     let q : AreBytes a.b.now = λ j. omega (arith, c.type_inv.b j) in
     let l = c.loop-i in
-    by_word a.a.now a.b.now a.at a.bt p q l.i 1 _ _ (omega arith) (omega arith) l.invariant.1 c.load8-x.ensures c.load8-y.ensures in
+    by_word a.a.now a.b.now a.at a.bt p q l.i 1 _ _ (omega arith) (omega arith) l.invariant c.load8-x.ensures c.load8-y.ensures in
     let a = c.args in
     let i = c.loop-i.i in
     sym (decided a.a.now a.b.now a.at a.bt (i + 1) a.n Greater (omega arith) (omega arith) (omega arith) (byte ∙ order_greater _ _ c.if-y-x.true) refl)
@@ -42,11 +41,11 @@ loop-i-preserved c =
     let p : AreBytes a.a.now = λ j. omega (arith, c.type_inv.a j) in
     let q : AreBytes a.b.now = λ j. omega (arith, c.type_inv.b j) in
     let l = c.loop-i in
-    by_word a.a.now a.b.now a.at a.bt p q l.i 1 _ _ (omega arith) (omega arith) l.invariant.1 c.load8-x.ensures c.load8-y.ensures in
-    (search rules, byte ∙ order_equal _ _ (omega arith))
+    by_word a.a.now a.b.now a.at a.bt p q l.i 1 _ _ (omega arith) (omega arith) l.invariant c.load8-x.ensures c.load8-y.ensures in
+    byte ∙ order_equal _ _ (omega arith)
 
 pub returns : goal.returns
 returns c =
     let l = c.loop-i in
     let e : l.i ≡ c.args.n = omega arith in
-    sym (rw e at l.invariant.1)
+    sym (rw e at l.invariant)

@@ -1,12 +1,13 @@
--- `octets::load16` meets its contract, by the law of one byte more.
-use borrow.Author.Rules.{rules}
-use native.Mathlib.Omega.{arith}
-use Rattle.octets.proofs.Places.{be_at, be_more}
+-- `octets::load16` meets its contract: the library spells a number as `be` does.
+use Rattle.std.proofs.Common.{rules, arith, get_or, Fits, w8, ap, ◌∙◌}
+use Rattle.std.proofs.lemmas.Nat.{be_bytes_2}
+use Rattle.octets.specs.Bytes.{be}
+use Rattle.octets.proofs.Numbers.{spelled}
 use Rattle.octets.proofs.load16.Goals as goal
 
 pub returns : goal.returns
 returns c =
-    let a = c.args in
-    let one = be_at a.at a.s.now (omega arith) in
-    let two = be_more a.at 1 a.s.now (omega arith) in
-    (omega arith, search rules)
+    let x = c.from_be_bytes.result in
+    let s = c.load_array.result in
+    let e = spelled 2 x s (omega arith) (be_bytes_2 s x (search rules) (λ j. let f : Fits w8 (get_or s j 0) = search rules in f.fits) c.from_be_bytes.ensures) in
+    (c.from.ensures ∙ e ∙ ap be c.load_array.ensures, omega arith)

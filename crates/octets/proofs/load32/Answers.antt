@@ -1,10 +1,13 @@
--- `octets::load32` meets its contract: bytes turned twice are as they were.
-use mathlib.Core.Path.{◌∙◌}
-use Rattle.octets.specs.Bytes.{part}
-use Rattle.octets.proofs.Numbers.{turned_twice}
+-- `octets::load32` meets its contract: the library spells a number as `be` does.
+use Rattle.std.proofs.Common.{rules, arith, get_or, Fits, w8, ap, ◌∙◌}
+use Rattle.std.proofs.lemmas.Nat.{be_bytes_4}
+use Rattle.octets.specs.Bytes.{be}
+use Rattle.octets.proofs.Numbers.{spelled}
 use Rattle.octets.proofs.load32.Goals as goal
 
 pub returns : goal.returns
 returns c =
-    let a = c.args in
-    c.turned.ensures ∙ turned_twice c.load_turned.result (part a.at 4 a.s.now) c.load_turned.ensures
+    let x = c.from_be_bytes.result in
+    let s = c.load_array.result in
+    let e = spelled 4 x s (omega arith) (be_bytes_4 s x (search rules) (λ j. let f : Fits w8 (get_or s j 0) = search rules in f.fits) c.from_be_bytes.ensures) in
+    e ∙ ap be c.load_array.ensures

@@ -1,11 +1,11 @@
--- `octets::store32` meets its contract, by the law of two halves.
-use native.Mathlib.Omega.{arith}
-use mathlib.Core.Path.{refl}
-use Rattle.octets.proofs.Numbers.{bytes_of_mod}
-use Rattle.octets.proofs.Places.{store_two}
+-- `octets::store32` meets its contract: the library's bytes of a number are those of `bytes_of`.
+use mathlib.Core.List.{List}
+use Rattle.std.proofs.Common.{ℕ, ap, ◌∙◌}
+use Rattle.octets.specs.Bytes.{put}
+use Rattle.octets.proofs.Numbers.{bytes_high}
 use Rattle.octets.proofs.store32.Goals as goal
 
 pub returns : goal.returns
 returns c =
     let a = c.args in
-    store_two a.at 2 2 a.v _ _ a.s.now _ _ (omega arith) refl (bytes_of_mod 2 a.v) c.store16.ensures c.store16-2.ensures
+    c.store_all.ensures ∙ ap (λ (l : List ℕ). put a.at l a.s.now) (c.to_be_bytes.ensures ∙ bytes_high 4 c.args.v)

@@ -1,5 +1,5 @@
--- The invariant: the volumes from i on decide. The measure is how many they are.
-use Rattle.std.proofs.Common.{◌-◌, ◌<◌, ◌||◌, sym, refl, ◌∙◌, arith}
+-- The invariant: the volumes from i on decide.
+use Rattle.std.proofs.Common.{◌<◌, ◌||◌, sym, refl, ◌∙◌, arith}
 use Rattle.rules.specs.Records.{Volume}
 use Rattle.rules.specs.Tables.{same_id}
 use Rattle.table.specs.Table.{count_of}
@@ -19,12 +19,6 @@ volume_at-v-requires c = (c.requires, let h : c.loop-i.i < count_of c.args.volum
 
 pub returns-then-names : goal.returns-then-names
 returns-then-names c = names_here c.args.volumes.now (λ (v : Volume). same_id c.args.log v.local || same_id c.args.log v.remote) c.loop-i.i _ c.volume_at-v.ensures (sym c.names.ensures ∙ c.if-names.true) ∙ sym c.loop-i.invariant
-
-pub overflow_add-i : goal.overflow_add-i
-overflow_add-i c = omega (arith, c.count-n.ensures.1)
-
-pub loop-i-smaller : goal.loop-i-smaller
-loop-i-smaller c = omega arith
 
 pub loop-i-preserved : goal.loop-i-preserved
 loop-i-preserved c = c.loop-i.invariant ∙ names_later c.args.volumes.now (λ (v : Volume). same_id c.args.log v.local || same_id c.args.log v.remote) c.loop-i.i _ c.volume_at-v.ensures (sym c.names.ensures ∙ c.if-names.false)

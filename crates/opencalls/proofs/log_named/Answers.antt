@@ -15,8 +15,8 @@ returns-then-any_names c = named_volume (volumes_in c.args.volumes.now) (commits
 pub latest-requires : goal.latest-requires
 latest-requires c = c.requires.1
 
-pub returns-in-At : goal.returns-in-At
-returns-in-At c = named_commit (volumes_in c.args.volumes.now) (commits_in c.args.commits.now) c.args.log (sym c.any_names.ensures ∙ c.if-any_names.false) _ (place_at_lem c.args.commits.now _ _ c.latest.ensures _ c.in-At.is).0
+pub returns-in-Some : goal.returns-in-Some
+returns-in-Some c = named_commit (volumes_in c.args.volumes.now) (commits_in c.args.commits.now) c.args.log (sym c.any_names.ensures ∙ c.if-any_names.false) _ (place_at_lem c.args.commits.now _ _ c.latest.ensures _ c.in-Some.is).0
 
-pub returns-in-Missing : goal.returns-in-Missing
-returns-in-Missing c = named_commit (volumes_in c.args.volumes.now) (commits_in c.args.commits.now) c.args.log (sym c.any_names.ensures ∙ c.if-any_names.false) none (place_missing c.args.commits.now _ _ c.latest.ensures c.in-Missing.is)
+pub returns-in-None : goal.returns-in-None
+returns-in-None c = named_commit (volumes_in c.args.volumes.now) (commits_in c.args.commits.now) c.args.log (sym c.any_names.ensures ∙ c.if-any_names.false) none (place_missing c.args.commits.now _ _ c.latest.ensures c.in-None.is)

@@ -6,4 +6,4 @@ use Rattle.opencalls.proofs.Ends.{new_good}
 use Rattle.opencalls.proofs.new_volume.Goals as goal
 
 pub returns : goal.returns
-returns c = new_good c.args.commits.now c.requires (asked c.args.vid c.args.local c.args.remote) (spares c.args.vid c.args.local c.args.remote) _ _ _ c.sync_at-sync.result _ _ c.chosen-id.ensures c.chosen-here.ensures c.chosen-there.ensures c.sync_at-sync.ensures c.new.ensures (id_form_lem c.chosen-id.result (search rules) (λ j. let f : Fits w8 (get_or c.chosen-id.result j 0) = search rules in f.fits)) (id_form_lem c.chosen-here.result (search rules) (λ j. let f : Fits w8 (get_or c.chosen-here.result j 0) = search rules in f.fits)) (id_form_lem c.chosen-there.result (search rules) (λ j. let f : Fits w8 (get_or c.chosen-there.result j 0) = search rules in f.fits))
+returns c = new_good c.args.commits.now c.requires (asked c.args.vid c.args.local c.args.remote) (spares c.args.vid c.args.local c.args.remote) _ _ _ c.sync_at-sync.result _ c.chosen-id.ensures c.chosen-here.ensures c.chosen-there.ensures c.sync_at-sync.ensures c.new.ensures (id_form_lem c.chosen-id.result (search rules) (λ j. let f : Fits w8 (get_or c.chosen-id.result j 0) = search rules in f.fits)) (id_form_lem c.chosen-here.result (search rules) (λ j. let f : Fits w8 (get_or c.chosen-here.result j 0) = search rules in f.fits)) (id_form_lem c.chosen-there.result (search rules) (λ j. let f : Fits w8 (get_or c.chosen-there.result j 0) = search rules in f.fits))

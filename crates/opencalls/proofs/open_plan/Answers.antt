@@ -17,10 +17,10 @@ pub returns-in_default : goal.returns-in_default
 returns-in_default c = not_stored c.args.volumes.now (commits_in c.args.commits.now) (asked c.args.vid c.args.local c.args.remote) (spares c.args.vid c.args.local c.args.remote) (asked_volume (volumes_in c.args.volumes.now) (asked_says c.args.vid)) c.asked_spot.result c.asked_spot.ensures _ c.in_default.is c.new_plan.result c.new_plan.ensures
 
 pub volume_at-v-requires : goal.volume_at-v-requires
-volume_at-v-requires c = (c.requires.0, c.asked_spot.ensures.inside _ c.in-At.is)
+volume_at-v-requires c = (c.requires.0, c.asked_spot.ensures.inside _ c.in-Ok.is)
 
 pub returns-then-not-agrees : goal.returns-then-not-agrees
-returns-then-not-agrees c = other_remote c.args.volumes.now (commits_in c.args.commits.now) (asked c.args.vid c.args.local c.args.remote) (spares c.args.vid c.args.local c.args.remote) (asked_volume (volumes_in c.args.volumes.now) (asked_says c.args.vid)) c.asked_spot.result c.asked_spot.ensures _ c.in-At.is _ c.volume_at-v.ensures (sym c.agrees.ensures ∙ c.if-not-agrees.true)
+returns-then-not-agrees c = other_remote c.args.volumes.now (commits_in c.args.commits.now) (asked c.args.vid c.args.local c.args.remote) (spares c.args.vid c.args.local c.args.remote) (asked_volume (volumes_in c.args.volumes.now) (asked_says c.args.vid)) c.asked_spot.result c.asked_spot.ensures _ c.in-Ok.is _ c.volume_at-v.ensures (sym c.agrees.ensures ∙ c.if-not-agrees.true)
 
 pub returns : goal.returns
-returns c = stored_goes c.args.volumes.now (commits_in c.args.commits.now) (asked c.args.vid c.args.local c.args.remote) (spares c.args.vid c.args.local c.args.remote) (asked_volume (volumes_in c.args.volumes.now) (asked_says c.args.vid)) c.asked_spot.result c.asked_spot.ensures _ c.in-At.is _ c.volume_at-v.ensures (sym c.agrees.ensures ∙ c.if-not-agrees.false)
+returns c = stored_goes c.args.volumes.now (commits_in c.args.commits.now) (asked c.args.vid c.args.local c.args.remote) (spares c.args.vid c.args.local c.args.remote) (asked_volume (volumes_in c.args.volumes.now) (asked_says c.args.vid)) c.asked_spot.result c.asked_spot.ensures _ c.in-Ok.is _ c.volume_at-v.ensures (sym c.agrees.ensures ∙ c.if-not-agrees.false)

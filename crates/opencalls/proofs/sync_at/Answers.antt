@@ -10,7 +10,7 @@ pub returns-in_default : goal.returns-in_default
 returns-in_default c = ap (λ (o : Option Commit). sync_at (map (λ (c : Commit). c.lsn) o)) (place_missing c.args.commits.now _ _ c.latest.ensures c.in_default.is)
 
 pub lsn_at-requires : goal.lsn_at-requires
-lsn_at-requires c = (c.requires, (place_at_lem c.args.commits.now _ _ c.latest.ensures c.in-At.i c.in-At.is).1)
+lsn_at-requires c = (c.requires, (place_at_lem c.args.commits.now _ _ c.latest.ensures c.in-Some.i c.in-Some.is).1)
 
 pub returns : goal.returns
-returns c = ap (λ (n : ℕ). sync_at (some n)) c.lsn_at.ensures ∙ ap (λ (o : Option Commit). sync_at (map (λ (c : Commit). c.lsn) o)) (place_at_lem c.args.commits.now _ _ c.latest.ensures c.in-At.i c.in-At.is).0
+returns c = ap (λ (n : ℕ). sync_at (some n)) c.lsn_at.ensures ∙ ap (λ (o : Option Commit). sync_at (map (λ (c : Commit). c.lsn) o)) (place_at_lem c.args.commits.now _ _ c.latest.ensures c.in-Some.i c.in-Some.is).0

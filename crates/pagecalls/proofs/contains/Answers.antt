@@ -21,4 +21,4 @@ contains-requires c = let s = c.args.s in so _ (normal s) c.is_normal.ensures (a
 
 pub returns : goal.returns
 unfolding contains_rule
-returns c = let s = c.args.s in c.yes_or_no.ensures ∙ ap done c.contains.ensures ∙ passed _ (normal s) 3 (so _ (normal s) c.is_normal.ensures (ap not c.if-not-is_normal.false)) ∙ zero_passed _ c.args.p.0 c.if-p-eq0.false
+returns c = let s = c.args.s in ap done c.contains.ensures ∙ passed _ (normal s) 3 (so _ (normal s) c.is_normal.ensures (ap not c.if-not-is_normal.false)) ∙ zero_passed _ c.args.p.0 c.if-p-eq0.false

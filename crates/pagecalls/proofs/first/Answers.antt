@@ -17,4 +17,4 @@ first-requires c = let s = c.args.s in so _ (normal s) c.is_normal.ensures (ap n
 
 pub returns : goal.returns
 unfolding first_rule
-returns c = let s = c.args.s in c.page_or_nothing.ensures ∙ ap done c.first.ensures ∙ passed _ (normal s) 3 (so _ (normal s) c.is_normal.ensures (ap not c.if-not-is_normal.false))
+returns c = let s = c.args.s in ap done c.first.ensures ∙ passed _ (normal s) 3 (so _ (normal s) c.is_normal.ensures (ap not c.if-not-is_normal.false))

@@ -17,4 +17,4 @@ last-requires c = let s = c.args.s in so _ (normal s) c.is_normal.ensures (ap no
 
 pub returns : goal.returns
 unfolding last_rule
-returns c = let s = c.args.s in c.page_or_nothing.ensures ∙ ap done c.last.ensures ∙ passed _ (normal s) 3 (so _ (normal s) c.is_normal.ensures (ap not c.if-not-is_normal.false))
+returns c = let s = c.args.s in ap done c.last.ensures ∙ passed _ (normal s) 3 (so _ (normal s) c.is_normal.ensures (ap not c.if-not-is_normal.false))

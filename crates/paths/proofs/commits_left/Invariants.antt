@@ -1,5 +1,5 @@
--- The invariant: what was counted and what is left make up all. The measure is how many ranges are left.
-use Rattle.std.proofs.Common.{◌≡◌, ◌+◌, ◌-◌, ◌≤◌, map, length, take, drop}
+-- The invariant: what was counted and what is left make up all.
+use Rattle.std.proofs.Common.{◌≡◌, ◌+◌, map, length, take, drop}
 use Rattle.rules.specs.Walk.{path_commits}
 use Rattle.layout.specs.Tables.{commits_in}
 use Rattle.volume.specs.Snapshots.{range_says}
@@ -7,7 +7,4 @@ use Rattle.paths.proofs.commits_left.Given as goal
 
 abbrev pub invariant-loop-at : goal.invariant-loop-at
 invariant-loop-at l =
-    (l.at ≤ l.len) × (length (path_commits (commits_in l.commits) (map range_says (drop l.initial.at (take l.len l.path)))) ≡ l.n + length (path_commits (commits_in l.commits) (map range_says (drop l.at (take l.len l.path)))))
-
-abbrev pub decreases-loop-at : goal.decreases-loop-at
-decreases-loop-at l = l.len - l.at
+    (length (path_commits (commits_in l.commits) (map range_says (drop l.left.at (take l.left.len l.left.path)))) ≡ l.n + length (path_commits (commits_in l.commits) (map range_says (drop l.at (take l.left.len l.left.path)))))

@@ -1,5 +1,5 @@
--- The invariant: the ranges passed over have no commit, so what was left begins with them and then what is left now. The measure is how many are left.
-use Rattle.std.proofs.Common.{◌≡◌, ◌+◌, ◌-◌, ◌≤◌, map, take, drop}
+-- The invariant: the ranges passed over have no commit, so what was left begins with them and then what is left now.
+use Rattle.std.proofs.Common.{◌≡◌, ◌+◌, map, take, drop}
 use Rattle.layout.specs.Tables.{commits_in}
 use Rattle.volume.specs.Snapshots.{range_says}
 use Rattle.paths.specs.Left.{leading}
@@ -7,7 +7,4 @@ use Rattle.paths.proofs.next_range.Given as goal
 
 abbrev pub invariant-loop-at : goal.invariant-loop-at
 invariant-loop-at l =
-    (l.at ≤ l.len) × (l.initial.at + leading (commits_in l.commits) (map range_says (drop l.initial.at (take l.len l.path))) ≡ l.at + leading (commits_in l.commits) (map range_says (drop l.at (take l.len l.path))))
-
-abbrev pub decreases-loop-at : goal.decreases-loop-at
-decreases-loop-at l = l.len - l.at
+    (l.left.at + leading (commits_in l.commits) (map range_says (drop l.left.at (take l.left.len l.left.path))) ≡ l.at + leading (commits_in l.commits) (map range_says (drop l.at (take l.left.len l.left.path))))

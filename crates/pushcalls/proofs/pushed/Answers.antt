@@ -2,12 +2,11 @@
 use Rattle.std.proofs.Common.{ap}
 use Rattle.rules.proofs.TableLaws.{missing}
 use Rattle.volume.specs.Volumes.{pending_says}
-use Rattle.volume.specs.declared.volume.PendingCommit.{PendingCommit}
 use Rattle.pushcalls.proofs.Ends.{pushed_says}
 use Rattle.pushcalls.proofs.pushed.Goals as goal
 
 pub returns-in_default : goal.returns-in_default
-returns-in_default c = λ p e. absurd (missing (ap (λ (m : PendingCommit). pending_says m c.args.v.pending_hash) c.in_default.is) e)
+returns-in_default c = λ p e. absurd (missing (ap pending_says c.in_default.is) e)
 
 pub returns : goal.returns
-returns c = pushed_says c.args.v _ _ _ _ c.in-At.is c.with_sync-moved.ensures c.with_pending_commit.ensures
+returns c = pushed_says c.args.v _ _ _ c.in-Some.is c.with_sync-moved.ensures c.with_pending_commit.ensures

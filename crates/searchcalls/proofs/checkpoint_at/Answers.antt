@@ -14,8 +14,8 @@ returns-then-lsn-eq0 c = checkpoint_zero c.args.checkpoints.now c.args.log c.arg
 pub checkpoint_at-requires : goal.checkpoint_at-requires
 checkpoint_at-requires c = sym c.checkpoints_formed.ensures ∙ c.if-not-checkpoints_formed.false
 
-pub returns-in-At : goal.returns-in-At
-returns-in-At c = checkpoint_told c.args.checkpoints.now c.args.log c.args.lsn.0 (sym c.checkpoints_formed.ensures ∙ c.if-not-checkpoints_formed.false) c.if-lsn-eq0.false (some c.in-At.n.0) (ap maybe_lsn_says (sym c.in-At.is) ∙ c.checkpoint_at.ensures)
+pub returns-in-Some : goal.returns-in-Some
+returns-in-Some c = checkpoint_told c.args.checkpoints.now c.args.log c.args.lsn.0 (sym c.checkpoints_formed.ensures ∙ c.if-not-checkpoints_formed.false) c.if-lsn-eq0.false (some c.in-Some.n.0) (ap maybe_lsn_says (sym c.in-Some.is) ∙ c.checkpoint_at.ensures)
 
-pub returns-in-Missing : goal.returns-in-Missing
-returns-in-Missing c = checkpoint_told c.args.checkpoints.now c.args.log c.args.lsn.0 (sym c.checkpoints_formed.ensures ∙ c.if-not-checkpoints_formed.false) c.if-lsn-eq0.false none (ap maybe_lsn_says (sym c.in-Missing.is) ∙ c.checkpoint_at.ensures)
+pub returns-in-None : goal.returns-in-None
+returns-in-None c = checkpoint_told c.args.checkpoints.now c.args.log c.args.lsn.0 (sym c.checkpoints_formed.ensures ∙ c.if-not-checkpoints_formed.false) c.if-lsn-eq0.false none (ap maybe_lsn_says (sym c.in-None.is) ∙ c.checkpoint_at.ensures)

@@ -2,8 +2,8 @@
 use Rattle.searchcalls.proofs.PathLaws.{stored, unstored}
 use Rattle.searchcalls.proofs.entry_commit.Goals as goal
 
-pub returns-in-At : goal.returns-in-At
-returns-in-At c = stored c.args.commits.now c.args.log c.args.lsn.0 _ c.find_commit.ensures _ c.in-At.is
+pub returns-in-Some : goal.returns-in-Some
+returns-in-Some c = stored c.args.commits.now c.args.log c.args.lsn.0 _ c.find_commit.ensures _ c.in-Some.is
 
-pub returns-in-Missing : goal.returns-in-Missing
-returns-in-Missing c = unstored c.args.commits.now c.args.log c.args.lsn.0 _ c.find_commit.ensures c.in-Missing.is
+pub returns-in-None : goal.returns-in-None
+returns-in-None c = unstored c.args.commits.now c.args.log c.args.lsn.0 _ c.find_commit.ensures c.in-None.is

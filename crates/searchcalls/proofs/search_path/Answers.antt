@@ -1,5 +1,5 @@
--- The invariant: the whole path answers what its ranges from i on answer. The measure is how many they are.
-use Rattle.std.proofs.Common.{◌≡◌, ◌-◌, ◌<◌, length, sym, refl, ap, ◌∙◌, arith, rules}
+-- The invariant: the whole path answers what its ranges from i on answer.
+use Rattle.std.proofs.Common.{◌≡◌, ◌<◌, length, sym, refl, ap, ◌∙◌, arith, rules}
 use Rattle.layout.specs.Tables.{commits_in, index_in}
 use Rattle.volume.specs.Volumes.{maybe_lsn_says}
 use Rattle.searchcalls.proofs.PathLaws.{decides, goes_on, none_left}
@@ -8,15 +8,12 @@ use Rattle.searchcalls.proofs.search_path.Goals as goal
 pub loop-i-init : goal.loop-i-init
 loop-i-init c = refl
 
-pub returns-in-At : goal.returns-in-At
-returns-in-At c =
+pub returns-in-Some : goal.returns-in-Some
+returns-in-Some c =
     let l : length c.args.path ≡ 8 = search rules in
     let h : c.loop-i.i < c.args.len = omega arith in
     let k : c.loop-i.i < length c.args.path = omega arith in
-    decides (commits_in c.args.commits.now) (index_in c.args.index.now) c.args.page.0 c.args.path c.args.len c.loop-i.i h k _ c.args.commits.now _ _ (ap maybe_lsn_says (sym c.in-At.is) ∙ c.entry_in.ensures) c.loop-i.invariant c.entry_commit.ensures
-
-pub loop-i-smaller : goal.loop-i-smaller
-loop-i-smaller c = omega arith
+    decides (commits_in c.args.commits.now) (index_in c.args.index.now) c.args.page.0 c.args.path c.args.len c.loop-i.i h k _ c.args.commits.now _ _ (ap maybe_lsn_says (sym c.in-Some.is) ∙ c.entry_in.ensures) c.loop-i.invariant c.entry_commit.ensures
 
 pub loop-i-preserved : goal.loop-i-preserved
 loop-i-preserved c =

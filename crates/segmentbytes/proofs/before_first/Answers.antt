@@ -11,15 +11,15 @@ use Rattle.segmentbytes.proofs.before_first.Goals as goal
 
 pub overflow_sub-result : goal.overflow_sub-result
 overflow_sub-result c =
-    let e = ap maybe_page_says (sym c.in-At.is) ∙ c.set_first-first.ensures in
+    let e = ap maybe_page_says (sym c.in-Some.is) ∙ c.set_first-first.ensures in
     let f = (in_form_lem set_bytes normal_form (part c.args.at 385 c.args.s.now) c.requires.s_value).1 in
     omega (arith, first_counts _ f _ e)
 
-pub returns-in-At : goal.returns-in-At
-returns-in-At c =
-    let e = ap maybe_page_says (sym c.in-At.is) ∙ c.set_first-first.ensures in
+pub returns-in-Some : goal.returns-in-Some
+returns-in-Some c =
+    let e = ap maybe_page_says (sym c.in-Some.is) ∙ c.set_first-first.ensures in
     let f = (in_form_lem set_bytes normal_form (part c.args.at 385 c.args.s.now) c.requires.s_value).1 in
     omega (arith, first_counts _ f _ e, ap or_one e)
 
-pub returns-in-Nothing : goal.returns-in-Nothing
-returns-in-Nothing c = ap or_one (ap maybe_page_says (sym c.in-Nothing.is) ∙ c.set_first-first.ensures)
+pub returns-in-None : goal.returns-in-None
+returns-in-None c = ap or_one (ap maybe_page_says (sym c.in-None.is) ∙ c.set_first-first.ensures)

@@ -1,59 +1,36 @@
 -- The windows passed were in order, so the test of what is left is the test of them all; the first window that is not in order makes it false.
--- The measure is what is left. Assumes nothing.
-use Rattle.std.proofs.Common.{◌-◌, sym, refl, ◌∙◌, arith}
+-- Assumes nothing.
+use Rattle.std.proofs.Common.{sym, ◌∙◌, arith}
 use Rattle.setbytes.proofs.SetLaws.{ordered_low, ordered_high, ordered_empty, ordered_step, ordered_end}
 use Rattle.setbytes.proofs.in_order.Goals as goal
-
-pub loop-i-init : goal.loop-i-init
-loop-i-init c = (omega arith, refl)
-
-pub overflow_mul-i : goal.overflow_mul-i
-overflow_mul-i c = omega arith
-
-pub overflow_add-at : goal.overflow_add-at
-overflow_add-at c = omega arith
-
-pub window_read-w-requires : goal.window_read-w-requires
-window_read-w-requires c = omega arith
 
 pub returns-then-w-lo : goal.returns-then-w-lo
 returns-then-w-lo c =
     let a = c.args in
     let l = c.loop-i in
-    sym (ordered_low a.n a.at a.s.now l.i l.lo (omega arith) c.window_read-w.result c.window_read-w.ensures c.if-w-lo.true) ∙ l.invariant.1
+    sym (ordered_low a.n a.at a.s.now l.i l.lo (omega arith) c.window_read-w.result c.window_read-w.ensures c.if-w-lo.true) ∙ l.invariant
 
 pub returns-then-w-gt67108863 : goal.returns-then-w-gt67108863
 returns-then-w-gt67108863 c =
     let a = c.args in
     let l = c.loop-i in
-    sym (ordered_high a.n a.at a.s.now l.i l.lo (omega arith) c.window_read-w.result c.window_read-w.ensures (omega arith)) ∙ l.invariant.1
+    sym (ordered_high a.n a.at a.s.now l.i l.lo (omega arith) c.window_read-w.result c.window_read-w.ensures (omega arith)) ∙ l.invariant
 
 pub returns-then-w-eq0 : goal.returns-then-w-eq0
 returns-then-w-eq0 c =
     let a = c.args in
     let l = c.loop-i in
-    sym (ordered_empty a.n a.at a.s.now l.i l.lo (omega arith) c.window_read-w.result c.window_read-w.ensures c.if-w-eq0.true) ∙ l.invariant.1
-
-pub overflow_add-lo : goal.overflow_add-lo
-overflow_add-lo c = omega arith
-
-pub overflow_add-i : goal.overflow_add-i
-overflow_add-i c = omega arith
-
-pub loop-i-smaller : goal.loop-i-smaller
-loop-i-smaller c = omega arith
+    sym (ordered_empty a.n a.at a.s.now l.i l.lo (omega arith) c.window_read-w.result c.window_read-w.ensures c.if-w-eq0.true) ∙ l.invariant
 
 pub loop-i-preserved : goal.loop-i-preserved
 loop-i-preserved c =
     let a = c.args in
-    let l = c.loop-i in (
-      omega arith,
-      sym (ordered_step a.n a.at a.s.now l.i l.lo (omega arith) c.window_read-w.result c.window_read-w.ensures (omega arith) (omega arith) (omega arith) (omega arith))
-          ∙ l.invariant.1,
-    )
+    let l = c.loop-i in
+    sym (ordered_step a.n a.at a.s.now l.i l.lo (omega arith) c.window_read-w.result c.window_read-w.ensures (omega arith) (omega arith) (omega arith) (omega arith))
+    ∙ l.invariant
 
 pub returns : goal.returns
 returns c =
     let a = c.args in
     let l = c.loop-i in
-    sym (ordered_end a.n a.at a.s.now l.i l.lo (omega arith)) ∙ l.invariant.1
+    sym (ordered_end a.n a.at a.s.now l.i l.lo (omega arith)) ∙ l.invariant

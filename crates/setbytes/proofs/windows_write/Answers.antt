@@ -1,5 +1,5 @@
--- What is left to store, stored behind the windows passed, gives the whole array stored. The measure is what is left. Assumes nothing.
-use Rattle.std.proofs.Common.{◌≡◌, ◌+◌, ◌-◌, ◌*◌, ◌≤◌, length, drop, sym, refl, ap, ◌∙◌, arith, rules}
+-- What is left to store, stored behind the windows passed, gives the whole array stored. Assumes nothing.
+use Rattle.std.proofs.Common.{◌≡◌, ◌+◌, ◌*◌, ◌≤◌, length, drop, sym, refl, ap, ◌∙◌, arith, rules}
 use Rattle.octets.specs.Bytes.{put}
 use Rattle.octets.specs.Flat.{flat}
 use Rattle.octets.proofs.Flats.{flat_start, flat_turn, flat_done}
@@ -8,38 +8,18 @@ use Rattle.setbytes.proofs.WindowLaws.{window_long}
 use Rattle.setbytes.proofs.windows_write.Goals as goal
 
 pub loop-i-init : goal.loop-i-init
-loop-i-init c = (omega arith, refl, flat_start 12 window_bytes.spell window_long _ _ _)
-
-pub offset_bounds-ws-i : goal.offset_bounds-ws-i
-offset_bounds-ws-i c = omega arith
-
-pub overflow_mul-i : goal.overflow_mul-i
-overflow_mul-i c = omega arith
-
-pub overflow_add-at : goal.overflow_add-at
-overflow_add-at c = omega arith
-
-pub window_write-requires : goal.window_write-requires
-window_write-requires c = omega arith
-
-pub overflow_add-i : goal.overflow_add-i
-overflow_add-i c = omega arith
-
-pub loop-i-smaller : goal.loop-i-smaller
-loop-i-smaller c = omega arith
+loop-i-init c = (refl, flat_start 12 window_bytes.spell window_long _ _ _)
 
 pub loop-i-preserved : goal.loop-i-preserved
 loop-i-preserved c =
     let long : length c.args.ws ≡ 32 = search rules in
     let a = c.args in
     let l = c.loop-i in
-    let n = long in
     let h : a.at + 12 * length a.ws ≤ length l.s = omega arith in (
-      search rules,
       search rules,
       ap (put (a.at + 12 * (l.i + 1)) (flat window_bytes.spell (drop (l.i + 1) a.ws))) c.window_write.ensures
           ∙ flat_turn 12 window_bytes.spell window_long a.at l.i a.ws _ l.s (omega arith) h
-          ∙ l.invariant.2,
+          ∙ l.invariant.1,
     )
 
 pub returns : goal.returns
@@ -47,5 +27,4 @@ returns c =
     let long : length c.args.ws ≡ 32 = search rules in
     let a = c.args in
     let l = c.loop-i in
-    let n = long in
-    sym (flat_done 12 window_bytes.spell window_long a.at l.i a.ws l.s (omega arith)) ∙ l.invariant.2
+    sym (flat_done 12 window_bytes.spell window_long a.at l.i a.ws l.s (omega arith)) ∙ l.invariant.1

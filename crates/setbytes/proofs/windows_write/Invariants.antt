@@ -1,5 +1,5 @@
--- What is left to store, stored behind the windows passed, gives the whole array stored. The measure is what is left. Assumes nothing.
-use Rattle.std.proofs.Common.{◌≡◌, ◌+◌, ◌-◌, ◌*◌, ◌≤◌, length, drop}
+-- What is left to store, stored behind the windows passed, gives the whole array stored. Assumes nothing.
+use Rattle.std.proofs.Common.{◌≡◌, ◌+◌, ◌*◌, length, drop}
 use Rattle.octets.specs.Bytes.{put}
 use Rattle.octets.specs.Flat.{flat}
 use Rattle.layout.specs.Values.{window_bytes}
@@ -7,7 +7,4 @@ use Rattle.setbytes.proofs.windows_write.Given as goal
 
 abbrev pub invariant-loop-i : goal.invariant-loop-i
 invariant-loop-i l =
-    (l.i ≤ 32) × (length l.s ≡ length l.initial.s) × (put (l.at + 12 * l.i) (flat window_bytes.spell (drop l.i l.ws)) l.s ≡ put l.at (flat window_bytes.spell l.ws) l.initial.s)
-
-abbrev pub decreases-loop-i : goal.decreases-loop-i
-decreases-loop-i l = 32 - l.i
+    (length l.s ≡ length l.initial.s) × (put (l.at + 12 * l.i) (flat window_bytes.spell (drop l.i l.w-items)) l.s ≡ put l.at (flat window_bytes.spell l.w-items) l.initial.s)

@@ -9,7 +9,7 @@ pub returns-in_default : goal.returns-in_default
 returns-in_default c = ap (map (λ (x : Commit). x.lsn)) (place_missing c.args.commits.now _ _ c.latest.ensures c.in_default.is)
 
 pub lsn_at-requires : goal.lsn_at-requires
-lsn_at-requires c = (c.requires, (place_at_lem c.args.commits.now _ _ c.latest.ensures c.in-At.i c.in-At.is).1)
+lsn_at-requires c = (c.requires, (place_at_lem c.args.commits.now _ _ c.latest.ensures c.in-Some.i c.in-Some.is).1)
 
 pub returns : goal.returns
-returns c = ap (λ (n : ℕ). some n) c.lsn_at.ensures ∙ ap (map (λ (x : Commit). x.lsn)) (place_at_lem c.args.commits.now _ _ c.latest.ensures c.in-At.i c.in-At.is).0
+returns c = ap (λ (n : ℕ). some n) c.lsn_at.ensures ∙ ap (map (λ (x : Commit). x.lsn)) (place_at_lem c.args.commits.now _ _ c.latest.ensures c.in-Some.i c.in-Some.is).0

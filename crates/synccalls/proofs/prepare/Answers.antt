@@ -17,7 +17,7 @@ use Rattle.layout.specs.Records.{volume_bytes}
 use Rattle.layout.proofs.LentLaws.{unchanged, changed}
 use Rattle.volumecalls.proofs.Ends.{nowhere}
 use Rattle.viewcalls.proofs.Ends.{no_volumes, no_commits}
-use Rattle.synccalls.proofs.Ends.{prepare_zero, prepare_nowhere, prepare_pending, prepare_pushed, prepare_apart, prepare_zero_hash, prepare_done, found_here, form_here, store_ready, pending_good, prepared_form}
+use Rattle.synccalls.proofs.Ends.{prepare_zero, prepare_nowhere, prepare_pending, prepare_pushed, prepare_apart, prepare_zero_hash, prepare_done, found_here, form_here, store_ready, pushes, prepared_form}
 use Rattle.synccalls.proofs.prepare.Goals as goal
 
 pub returns-then-not-volumes_formed : goal.returns-then-not-volumes_formed
@@ -45,18 +45,18 @@ returns-in_default c =
     record { value = whole.0; volumes_after = whole.1 }
 
 pub volume_at-v-requires : goal.volume_at-v-requires
-volume_at-v-requires c = ((sym c.volumes_formed.ensures ∙ c.if-not-volumes_formed.false), at_in 117 17 c.args.volumes.now _ _ _ c.find_volume.ensures.place c.in-At.is)
+volume_at-v-requires c = ((sym c.volumes_formed.ensures ∙ c.if-not-volumes_formed.false), at_in 117 17 c.args.volumes.now _ _ _ c.find_volume.ensures.place c.in-Ok.is)
 
 pub returns-then-not-none_pending : goal.returns-then-not-none_pending
 returns-then-not-none_pending c =
     let asked : Pending = record { local = c.args.local.0; commit = c.args.commit.0; hash = c.args.hash } in
-    let whole = unchanged volume_bytes c.args.volumes.now _ 9 (prepare_pending c.args.volumes.now c.args.commits.now c.args.vid (asked) (sym c.volumes_formed.ensures ∙ c.if-not-volumes_formed.false) (sym c.commits_formed.ensures ∙ c.if-not-commits_formed.false) (sym c.both_count.ensures ∙ c.if-not-both_count.false) (volume_says c.volume_at-v.result) (found_here c.args.volumes.now c.args.vid (sym c.volumes_formed.ensures ∙ c.if-not-volumes_formed.false) _ _ c.find_volume.ensures.says c.in-At.is c.volume_at-v.result c.volume_at-v.ensures) (sym c.none_pending.ensures ∙ c.if-not-none_pending.true)) in
+    let whole = unchanged volume_bytes c.args.volumes.now _ 9 (prepare_pending c.args.volumes.now c.args.commits.now c.args.vid (asked) (sym c.volumes_formed.ensures ∙ c.if-not-volumes_formed.false) (sym c.commits_formed.ensures ∙ c.if-not-commits_formed.false) (sym c.both_count.ensures ∙ c.if-not-both_count.false) (volume_says c.volume_at-v.result) (found_here c.args.volumes.now c.args.vid (sym c.volumes_formed.ensures ∙ c.if-not-volumes_formed.false) _ _ c.find_volume.ensures.says c.in-Ok.is c.volume_at-v.result c.volume_at-v.ensures) (sym c.none_pending.ensures ∙ c.if-not-none_pending.true)) in
     record { value = whole.0; volumes_after = whole.1 }
 
 pub returns-then-not-is_below : goal.returns-then-not-is_below
 returns-then-not-is_below c =
     let asked : Pending = record { local = c.args.local.0; commit = c.args.commit.0; hash = c.args.hash } in
-    let whole = unchanged volume_bytes c.args.volumes.now _ 11 (prepare_pushed c.args.volumes.now c.args.commits.now c.args.vid (asked) (sym c.volumes_formed.ensures ∙ c.if-not-volumes_formed.false) (sym c.commits_formed.ensures ∙ c.if-not-commits_formed.false) (sym c.both_count.ensures ∙ c.if-not-both_count.false) (volume_says c.volume_at-v.result) (found_here c.args.volumes.now c.args.vid (sym c.volumes_formed.ensures ∙ c.if-not-volumes_formed.false) _ _ c.find_volume.ensures.says c.in-At.is c.volume_at-v.result c.volume_at-v.ensures) (sym c.none_pending.ensures ∙ c.if-not-none_pending.false) (ap (λ (m : Option ℕ). below m c.args.local.0) (sym c.watermark_of.ensures) ∙ sym c.is_below.ensures ∙ c.if-not-is_below.true)) in
+    let whole = unchanged volume_bytes c.args.volumes.now _ 11 (prepare_pushed c.args.volumes.now c.args.commits.now c.args.vid (asked) (sym c.volumes_formed.ensures ∙ c.if-not-volumes_formed.false) (sym c.commits_formed.ensures ∙ c.if-not-commits_formed.false) (sym c.both_count.ensures ∙ c.if-not-both_count.false) (volume_says c.volume_at-v.result) (found_here c.args.volumes.now c.args.vid (sym c.volumes_formed.ensures ∙ c.if-not-volumes_formed.false) _ _ c.find_volume.ensures.says c.in-Ok.is c.volume_at-v.result c.volume_at-v.ensures) (sym c.none_pending.ensures ∙ c.if-not-none_pending.false) (ap (λ (m : Option ℕ). below m c.args.local.0) (sym c.watermark_of.ensures) ∙ sym c.is_below.ensures ∙ c.if-not-is_below.true)) in
     record { value = whole.0; volumes_after = whole.1 }
 
 pub latest_lsn-requires : goal.latest_lsn-requires
@@ -65,26 +65,26 @@ latest_lsn-requires c = (sym c.commits_formed.ensures ∙ c.if-not-commits_forme
 pub returns-then-not-is_next : goal.returns-then-not-is_next
 returns-then-not-is_next c =
     let asked : Pending = record { local = c.args.local.0; commit = c.args.commit.0; hash = c.args.hash } in
-    let whole = unchanged volume_bytes c.args.volumes.now _ 12 (prepare_apart c.args.volumes.now c.args.commits.now c.args.vid (asked) (sym c.volumes_formed.ensures ∙ c.if-not-volumes_formed.false) (sym c.commits_formed.ensures ∙ c.if-not-commits_formed.false) (sym c.both_count.ensures ∙ c.if-not-both_count.false) (volume_says c.volume_at-v.result) (found_here c.args.volumes.now c.args.vid (sym c.volumes_formed.ensures ∙ c.if-not-volumes_formed.false) _ _ c.find_volume.ensures.says c.in-At.is c.volume_at-v.result c.volume_at-v.ensures) (sym c.none_pending.ensures ∙ c.if-not-none_pending.false) (ap (λ (m : Option ℕ). below m c.args.local.0) (sym c.watermark_of.ensures) ∙ sym c.is_below.ensures ∙ c.if-not-is_below.false) (ap (λ (m : Option ℕ). is_before m c.args.commit.0) (sym c.latest_lsn.ensures) ∙ sym c.is_next.ensures ∙ c.if-not-is_next.true)) in
+    let whole = unchanged volume_bytes c.args.volumes.now _ 12 (prepare_apart c.args.volumes.now c.args.commits.now c.args.vid (asked) (sym c.volumes_formed.ensures ∙ c.if-not-volumes_formed.false) (sym c.commits_formed.ensures ∙ c.if-not-commits_formed.false) (sym c.both_count.ensures ∙ c.if-not-both_count.false) (volume_says c.volume_at-v.result) (found_here c.args.volumes.now c.args.vid (sym c.volumes_formed.ensures ∙ c.if-not-volumes_formed.false) _ _ c.find_volume.ensures.says c.in-Ok.is c.volume_at-v.result c.volume_at-v.ensures) (sym c.none_pending.ensures ∙ c.if-not-none_pending.false) (ap (λ (m : Option ℕ). below m c.args.local.0) (sym c.watermark_of.ensures) ∙ sym c.is_below.ensures ∙ c.if-not-is_below.false) (ap (λ (m : Option ℕ). is_before m c.args.commit.0) (sym c.latest_lsn.ensures) ∙ sym c.is_next.ensures ∙ c.if-not-is_next.true)) in
     record { value = whole.0; volumes_after = whole.1 }
 
 pub returns-then-is_zero : goal.returns-then-is_zero
 returns-then-is_zero c =
     let asked : Pending = record { local = c.args.local.0; commit = c.args.commit.0; hash = c.args.hash } in
-    let whole = unchanged volume_bytes c.args.volumes.now _ 13 (prepare_zero_hash c.args.volumes.now c.args.commits.now c.args.vid (asked) (sym c.volumes_formed.ensures ∙ c.if-not-volumes_formed.false) (sym c.commits_formed.ensures ∙ c.if-not-commits_formed.false) (sym c.both_count.ensures ∙ c.if-not-both_count.false) (volume_says c.volume_at-v.result) (found_here c.args.volumes.now c.args.vid (sym c.volumes_formed.ensures ∙ c.if-not-volumes_formed.false) _ _ c.find_volume.ensures.says c.in-At.is c.volume_at-v.result c.volume_at-v.ensures) (sym c.none_pending.ensures ∙ c.if-not-none_pending.false) (ap (λ (m : Option ℕ). below m c.args.local.0) (sym c.watermark_of.ensures) ∙ sym c.is_below.ensures ∙ c.if-not-is_below.false) (ap (λ (m : Option ℕ). is_before m c.args.commit.0) (sym c.latest_lsn.ensures) ∙ sym c.is_next.ensures ∙ c.if-not-is_next.false) (sym c.is_zero.ensures ∙ c.if-is_zero.true)) in
+    let whole = unchanged volume_bytes c.args.volumes.now _ 13 (prepare_zero_hash c.args.volumes.now c.args.commits.now c.args.vid (asked) (sym c.volumes_formed.ensures ∙ c.if-not-volumes_formed.false) (sym c.commits_formed.ensures ∙ c.if-not-commits_formed.false) (sym c.both_count.ensures ∙ c.if-not-both_count.false) (volume_says c.volume_at-v.result) (found_here c.args.volumes.now c.args.vid (sym c.volumes_formed.ensures ∙ c.if-not-volumes_formed.false) _ _ c.find_volume.ensures.says c.in-Ok.is c.volume_at-v.result c.volume_at-v.ensures) (sym c.none_pending.ensures ∙ c.if-not-none_pending.false) (ap (λ (m : Option ℕ). below m c.args.local.0) (sym c.watermark_of.ensures) ∙ sym c.is_below.ensures ∙ c.if-not-is_below.false) (ap (λ (m : Option ℕ). is_before m c.args.commit.0) (sym c.latest_lsn.ensures) ∙ sym c.is_next.ensures ∙ c.if-not-is_next.false) (sym c.is_zero.ensures ∙ c.if-is_zero.true)) in
     record { value = whole.0; volumes_after = whole.1 }
+
+pub to_push-pending-requires : goal.to_push-pending-requires
+to_push-pending-requires c = sym c.both_count.ensures ∙ c.if-not-both_count.false
 
 pub store_volume-requires : goal.store_volume-requires
 store_volume-requires c =
     let asked : Pending = record { local = c.args.local.0; commit = c.args.commit.0; hash = c.args.hash } in
-    let good : (counts c.args.local.0 && counts c.args.commit.0) ≡ true → pending_form (asked) ≡ true = λ h. let l : Fits w64 c.args.local.0 = search rules in
-    let m : Fits w64 c.args.commit.0 = search rules in
-    pending_good c.args.local.0 c.args.commit.0 c.args.hash h l.fits m.fits (search rules) (λ j. let f : Fits w8 (get_or c.args.hash j 0) = search rules in f.fits) in
-    let whole = store_ready c.args.volumes.now c.args.vid (sym c.volumes_formed.ensures ∙ c.if-not-volumes_formed.false) _ _ c.find_volume.ensures.says c.in-At.is c.volume_at-v.result c.volume_at-v.ensures c.find_volume.ensures.place c.with_pending_commit.result (ap (λ (z : CodeVolume). z.vid) c.with_pending_commit.ensures) (ap volume_form (ap volume_says c.with_pending_commit.ensures) ∙ prepared_form (volume_says c.volume_at-v.result) (asked) (form_here c.args.volumes.now c.args.vid (sym c.volumes_formed.ensures ∙ c.if-not-volumes_formed.false) _ _ c.find_volume.ensures.says c.in-At.is c.volume_at-v.result c.volume_at-v.ensures) (good (sym c.both_count.ensures ∙ c.if-not-both_count.false))) in
+    let whole = store_ready c.args.volumes.now c.args.vid (sym c.volumes_formed.ensures ∙ c.if-not-volumes_formed.false) _ _ c.find_volume.ensures.says c.in-Ok.is c.volume_at-v.result c.volume_at-v.ensures c.find_volume.ensures.place c.with_pending_commit.result (ap (λ (z : CodeVolume). z.vid) c.with_pending_commit.ensures) (ap volume_form (ap volume_says (pushes c.volume_at-v.result c.with_pending_commit.result c.to_push-pending.result _ c.with_pending_commit.ensures c.to_push-pending.ensures.value)) ∙ prepared_form (volume_says c.volume_at-v.result) (asked) (form_here c.args.volumes.now c.args.vid (sym c.volumes_formed.ensures ∙ c.if-not-volumes_formed.false) _ _ c.find_volume.ensures.says c.in-Ok.is c.volume_at-v.result c.volume_at-v.ensures) c.to_push-pending.ensures.form) in
     record { t_value = whole.0; t_value_2 = whole.1 }
 
 pub returns : goal.returns
 returns c =
     let asked : Pending = record { local = c.args.local.0; commit = c.args.commit.0; hash = c.args.hash } in
-    let whole = changed volume_bytes c.args.volumes.now _ _ _ (prepare_done c.args.volumes.now c.args.commits.now c.args.vid (asked) (sym c.volumes_formed.ensures ∙ c.if-not-volumes_formed.false) (sym c.commits_formed.ensures ∙ c.if-not-commits_formed.false) (sym c.both_count.ensures ∙ c.if-not-both_count.false) (volume_says c.volume_at-v.result) (found_here c.args.volumes.now c.args.vid (sym c.volumes_formed.ensures ∙ c.if-not-volumes_formed.false) _ _ c.find_volume.ensures.says c.in-At.is c.volume_at-v.result c.volume_at-v.ensures) (sym c.none_pending.ensures ∙ c.if-not-none_pending.false) (ap (λ (m : Option ℕ). below m c.args.local.0) (sym c.watermark_of.ensures) ∙ sym c.is_below.ensures ∙ c.if-not-is_below.false) (ap (λ (m : Option ℕ). is_before m c.args.commit.0) (sym c.latest_lsn.ensures) ∙ sym c.is_next.ensures ∙ c.if-not-is_next.false) (sym c.is_zero.ensures ∙ c.if-is_zero.false) ∙ ap (λ (z : Volume). done (store volume_key bytes z (volumes_in c.args.volumes.now))) (sym (ap volume_says c.with_pending_commit.ensures))) c.store_volume.ensures in
+    let whole = changed volume_bytes c.args.volumes.now _ _ _ (prepare_done c.args.volumes.now c.args.commits.now c.args.vid (asked) (sym c.volumes_formed.ensures ∙ c.if-not-volumes_formed.false) (sym c.commits_formed.ensures ∙ c.if-not-commits_formed.false) (sym c.both_count.ensures ∙ c.if-not-both_count.false) (volume_says c.volume_at-v.result) (found_here c.args.volumes.now c.args.vid (sym c.volumes_formed.ensures ∙ c.if-not-volumes_formed.false) _ _ c.find_volume.ensures.says c.in-Ok.is c.volume_at-v.result c.volume_at-v.ensures) (sym c.none_pending.ensures ∙ c.if-not-none_pending.false) (ap (λ (m : Option ℕ). below m c.args.local.0) (sym c.watermark_of.ensures) ∙ sym c.is_below.ensures ∙ c.if-not-is_below.false) (ap (λ (m : Option ℕ). is_before m c.args.commit.0) (sym c.latest_lsn.ensures) ∙ sym c.is_next.ensures ∙ c.if-not-is_next.false) (sym c.is_zero.ensures ∙ c.if-is_zero.false) ∙ ap (λ (z : Volume). done (store volume_key bytes z (volumes_in c.args.volumes.now))) (sym (ap volume_says (pushes c.volume_at-v.result c.with_pending_commit.result c.to_push-pending.result _ c.with_pending_commit.ensures c.to_push-pending.ensures.value)))) c.store_volume.ensures in
     record { value = whole.0; volumes_after = whole.1 }

@@ -14,40 +14,33 @@ count-n-requires c =
 
 pub overflow_mul-at : goal.overflow_mul-at
 overflow_mul-at c =
-    -- what moves ends within t
-    let sized : let a = c.args in 2 + a.i * a.stride + a.stride + (c.count-n.result - a.i) * a.stride ≤ length a.t.now = let a = c.args in
-    insert_size a.stride a.t.now a.i c.requires.0 c.count-n.result c.count-n.ensures.0 c.requires.1 c.requires.2 in
-    omega (arith, sized)
+    let a = c.args in
+    omega (arith, insert_size a.stride a.t.now a.i c.requires.0 c.count-n.result c.count-n.ensures.0 c.requires.1 c.requires.2)
 
 pub overflow_add-at : goal.overflow_add-at
 overflow_add-at c =
-    let sized : let a = c.args in 2 + a.i * a.stride + a.stride + (c.count-n.result - a.i) * a.stride ≤ length a.t.now = let a = c.args in
-    insert_size a.stride a.t.now a.i c.requires.0 c.count-n.result c.count-n.ensures.0 c.requires.1 c.requires.2 in
-    omega (arith, sized)
+    let a = c.args in
+    omega (arith, insert_size a.stride a.t.now a.i c.requires.0 c.count-n.result c.count-n.ensures.0 c.requires.1 c.requires.2)
 
 pub overflow_mul-n : goal.overflow_mul-n
 overflow_mul-n c =
-    let sized : let a = c.args in 2 + a.i * a.stride + a.stride + (c.count-n.result - a.i) * a.stride ≤ length a.t.now = let a = c.args in
-    insert_size a.stride a.t.now a.i c.requires.0 c.count-n.result c.count-n.ensures.0 c.requires.1 c.requires.2 in
-    omega (arith, sized)
+    let a = c.args in
+    omega (arith, insert_size a.stride a.t.now a.i c.requires.0 c.count-n.result c.count-n.ensures.0 c.requires.1 c.requires.2)
 
 pub move_up-requires : goal.move_up-requires
 move_up-requires c =
-    let sized : let a = c.args in 2 + a.i * a.stride + a.stride + (c.count-n.result - a.i) * a.stride ≤ length a.t.now = let a = c.args in
-    insert_size a.stride a.t.now a.i c.requires.0 c.count-n.result c.count-n.ensures.0 c.requires.1 c.requires.2 in
-    omega (arith, sized)
+    let a = c.args in
+    omega (arith, insert_size a.stride a.t.now a.i c.requires.0 c.count-n.result c.count-n.ensures.0 c.requires.1 c.requires.2)
 
 pub store_all-requires : goal.store_all-requires
 store_all-requires c =
-    let sized : let a = c.args in 2 + a.i * a.stride + a.stride + (c.count-n.result - a.i) * a.stride ≤ length a.t.now = let a = c.args in
-    insert_size a.stride a.t.now a.i c.requires.0 c.count-n.result c.count-n.ensures.0 c.requires.1 c.requires.2 in
-    omega (arith, sized, c.move_up.auto.s)
+    let a = c.args in
+    omega (arith, insert_size a.stride a.t.now a.i c.requires.0 c.count-n.result c.count-n.ensures.0 c.requires.1 c.requires.2, c.move_up.auto.s)
 
 pub store16-requires : goal.store16-requires
 store16-requires c =
-    let sized : let a = c.args in 2 + a.i * a.stride + a.stride + (c.count-n.result - a.i) * a.stride ≤ length a.t.now = let a = c.args in
-    insert_size a.stride a.t.now a.i c.requires.0 c.count-n.result c.count-n.ensures.0 c.requires.1 c.requires.2 in
-    omega (arith, sized, c.move_up.auto.s, c.store_all.auto.s)
+    let a = c.args in
+    omega (arith, insert_size a.stride a.t.now a.i c.requires.0 c.count-n.result c.count-n.ensures.0 c.requires.1 c.requires.2, c.move_up.auto.s, c.store_all.auto.s)
 
 pub returns : goal.returns
 returns c =

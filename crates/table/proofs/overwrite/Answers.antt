@@ -1,5 +1,6 @@
 -- `table::overwrite` meets its contract: record i gives way to rec.
-use native.Mathlib.Omega.{arith}
+use Rattle.std.proofs.Common.{arith, rules, get_or, Fits, w8}
+use Rattle.octets.specs.Bytes.{AreBytes}
 use Rattle.table.proofs.Stores.{overwrite_size, overwrite_done}
 use Rattle.table.proofs.overwrite.Goals as goal
 
@@ -22,4 +23,5 @@ pub returns : goal.returns
 returns c =
     let a = c.args in
     let p = c.requires in
-    overwrite_done a.stride a.t.now a.i p.0 a.rec.now _ (λ i. (c.slice_known-1.given i).fits) p.1 p.2 p.3 c.store_all.ensures
+    let bytes : AreBytes a.t.now = λ i. let f : Fits w8 (get_or a.t.now i 0) = search rules in f.fits in
+    overwrite_done a.stride a.t.now a.i p.0 a.rec.now _ bytes p.1 p.2 p.3 c.store_all.ensures

@@ -10,14 +10,14 @@ use Rattle.table.proofs.past_key.Goals as goal
 pub overflow_add-result : goal.overflow_add-result
 overflow_add-result c =
     let a = c.args in
-    omega (arith, at_in a.stride a.klen a.t.now a.key.now _ _ c.find.ensures c.in-At.is, cap_small a.stride (count_of a.t.now) a.t.now (well_count a.stride a.klen a.t.now c.requires.t_value))
+    omega (arith, at_in a.stride a.klen a.t.now a.key.now _ _ c.find.ensures c.in-Ok.is, cap_small a.stride (count_of a.t.now) a.t.now (well_count a.stride a.klen a.t.now c.requires.t_value))
 
-pub returns-in-At : goal.returns-in-At
-returns-in-At c =
+pub returns-in-Ok : goal.returns-in-Ok
+returns-in-Ok c =
     let a = c.args in
-    past_at a.stride a.klen a.t.now a.key.now _ _ c.find.ensures c.in-At.is
+    past_at a.stride a.klen a.t.now a.key.now _ _ c.find.ensures c.in-Ok.is
 
-pub returns-in-Gap : goal.returns-in-Gap
-returns-in-Gap c =
+pub returns-in-Err : goal.returns-in-Err
+returns-in-Err c =
     let a = c.args in
-    past_gap a.stride a.klen a.t.now a.key.now _ _ c.find.ensures c.in-Gap.is
+    past_gap a.stride a.klen a.t.now a.key.now _ _ c.find.ensures c.in-Err.is

@@ -14,34 +14,28 @@ count-n-requires c =
 
 pub overflow_mul-i : goal.overflow_mul-i
 overflow_mul-i c =
-    -- what moves ends within t
-    let sized : let a = c.args in 2 + a.i * a.stride + a.stride + (c.count-n.result - a.i - 1) * a.stride ≤ length a.t.now = let a = c.args in
-    remove_size a.stride a.t.now a.i c.requires.0 c.count-n.result c.count-n.ensures.0 c.requires.1 c.requires.2 in
-    omega (arith, sized)
+    let a = c.args in
+    omega (arith, remove_size a.stride a.t.now a.i c.requires.0 c.count-n.result c.count-n.ensures.0 c.requires.1 c.requires.2)
 
 pub overflow_add-i : goal.overflow_add-i
 overflow_add-i c =
-    let sized : let a = c.args in 2 + a.i * a.stride + a.stride + (c.count-n.result - a.i - 1) * a.stride ≤ length a.t.now = let a = c.args in
-    remove_size a.stride a.t.now a.i c.requires.0 c.count-n.result c.count-n.ensures.0 c.requires.1 c.requires.2 in
-    omega (arith, sized)
+    let a = c.args in
+    omega (arith, remove_size a.stride a.t.now a.i c.requires.0 c.count-n.result c.count-n.ensures.0 c.requires.1 c.requires.2)
 
 pub overflow_mul-n : goal.overflow_mul-n
 overflow_mul-n c =
-    let sized : let a = c.args in 2 + a.i * a.stride + a.stride + (c.count-n.result - a.i - 1) * a.stride ≤ length a.t.now = let a = c.args in
-    remove_size a.stride a.t.now a.i c.requires.0 c.count-n.result c.count-n.ensures.0 c.requires.1 c.requires.2 in
-    omega (arith, sized)
+    let a = c.args in
+    omega (arith, remove_size a.stride a.t.now a.i c.requires.0 c.count-n.result c.count-n.ensures.0 c.requires.1 c.requires.2)
 
 pub move_down-requires : goal.move_down-requires
 move_down-requires c =
-    let sized : let a = c.args in 2 + a.i * a.stride + a.stride + (c.count-n.result - a.i - 1) * a.stride ≤ length a.t.now = let a = c.args in
-    remove_size a.stride a.t.now a.i c.requires.0 c.count-n.result c.count-n.ensures.0 c.requires.1 c.requires.2 in
-    omega (arith, sized)
+    let a = c.args in
+    omega (arith, remove_size a.stride a.t.now a.i c.requires.0 c.count-n.result c.count-n.ensures.0 c.requires.1 c.requires.2)
 
 pub store16-requires : goal.store16-requires
 store16-requires c =
-    let sized : let a = c.args in 2 + a.i * a.stride + a.stride + (c.count-n.result - a.i - 1) * a.stride ≤ length a.t.now = let a = c.args in
-    remove_size a.stride a.t.now a.i c.requires.0 c.count-n.result c.count-n.ensures.0 c.requires.1 c.requires.2 in
-    omega (arith, sized, c.move_down.auto.s)
+    let a = c.args in
+    omega (arith, remove_size a.stride a.t.now a.i c.requires.0 c.count-n.result c.count-n.ensures.0 c.requires.1 c.requires.2, c.move_down.auto.s)
 
 pub returns : goal.returns
 returns c =

@@ -8,12 +8,12 @@ room_for-requires c =
     let a = c.args in
     (c.requires.stride_nonzero.0, well_two a.stride a.klen a.t.now c.requires.t_value, well_count a.stride a.klen a.t.now c.requires.t_value)
 
-pub returns-in-At : goal.returns-in-At
-returns-in-At c =
+pub returns-in-Ok : goal.returns-in-Ok
+returns-in-Ok c =
     let a = c.args in
-    room_at a.stride a.klen a.t.now a.rec.now _ _ c.find.ensures c.in-At.is c.requires.t_value
+    room_at a.stride a.klen a.t.now a.rec.now _ _ c.find.ensures c.in-Ok.is c.requires.t_value
 
-pub returns-in-Gap : goal.returns-in-Gap
-returns-in-Gap c =
+pub returns-in-Err : goal.returns-in-Err
+returns-in-Err c =
     let a = c.args in
-    room_gap a.stride a.klen a.t.now a.rec.now _ _ c.find.ensures c.in-Gap.is _ c.room_for.ensures
+    room_gap a.stride a.klen a.t.now a.rec.now _ _ c.find.ensures c.in-Err.is _ c.room_for.ensures

@@ -10,8 +10,8 @@ returns-in_default c =
 
 pub tagged_at-vid-requires : goal.tagged_at-vid-requires
 tagged_at-vid-requires c =
-    (c.requires.0, at_in 50 34 c.args.tags.now _ _ _ c.find_tag.ensures.place c.in-At.is)
+    (c.requires.0, at_in 50 34 c.args.tags.now _ _ _ c.find_tag.ensures.place c.in-Ok.is)
 
 pub returns : goal.returns
 returns c =
-    names c.args.tags.now c.args.name.now _ _ c.find_tag.ensures.says c.in-At.is _ c.tagged_at-vid.ensures
+    names c.args.tags.now c.args.name.now _ _ c.find_tag.ensures.says c.in-Ok.is _ c.tagged_at-vid.ensures

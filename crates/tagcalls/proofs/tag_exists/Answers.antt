@@ -21,11 +21,11 @@ returns-then-not-is_name c =
 pub find_tag-requires : goal.find_tag-requires
 find_tag-requires c = ((sym c.tags_formed.ensures ∙ c.if-not-tags_formed.false), (sym c.is_name.ensures ∙ c.if-not-is_name.false))
 
-pub returns-in-At : goal.returns-in-At
-returns-in-At c =
-    let there = sym (here c.args.tags.now c.args.name.now _ _ c.find_tag.ensures.says c.in-At.is) ∙ row_nth tags c.args.tags.now _ (at_in 50 34 c.args.tags.now _ _ _ c.find_tag.ensures.place c.in-At.is) in
+pub returns-in-Ok : goal.returns-in-Ok
+returns-in-Ok c =
+    let there = sym (here c.args.tags.now c.args.name.now _ _ c.find_tag.ensures.says c.in-Ok.is) ∙ row_nth tags c.args.tags.now _ (at_in 50 34 c.args.tags.now _ _ _ c.find_tag.ensures.place c.in-Ok.is) in
     sym (exists_is c.args.tags.now c.args.name.now (sym c.tags_formed.ensures ∙ c.if-not-tags_formed.false) (sym c.is_name.ensures ∙ c.if-not-is_name.false) ∙ ap (λ (o : Option Tag). done (is_some o)) there)
 
-pub returns-in-Gap : goal.returns-in-Gap
-returns-in-Gap c =
-    sym (exists_is c.args.tags.now c.args.name.now (sym c.tags_formed.ensures ∙ c.if-not-tags_formed.false) (sym c.is_name.ensures ∙ c.if-not-is_name.false) ∙ ap (λ (o : Option Tag). done (is_some o)) (nowhere c.args.tags.now c.args.name.now _ _ c.find_tag.ensures.says c.in-Gap.is))
+pub returns-in-Err : goal.returns-in-Err
+returns-in-Err c =
+    sym (exists_is c.args.tags.now c.args.name.now (sym c.tags_formed.ensures ∙ c.if-not-tags_formed.false) (sym c.is_name.ensures ∙ c.if-not-is_name.false) ∙ ap (λ (o : Option Tag). done (is_some o)) (nowhere c.args.tags.now c.args.name.now _ _ c.find_tag.ensures.says c.in-Err.is))

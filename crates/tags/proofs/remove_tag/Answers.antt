@@ -17,9 +17,9 @@ returns-in_default c =
 pub remove-requires : goal.remove-requires
 remove-requires c =
     let t = c.args.t.now in
-    (omega arith, at_in 50 34 t (key_bytes.spell c.args.name.now) _ _ c.find_tag.ensures.place c.in-At.is, well_count 50 34 t (formed_well tags t c.requires.0))
+    (omega arith, at_in 50 34 t (key_bytes.spell c.args.name.now) _ _ c.find_tag.ensures.place c.in-Ok.is, well_count 50 34 t (formed_well tags t c.requires.0))
 
 pub returns : goal.returns
 returns c =
     c.remove.ensures
-    ∙ remove_laid tags c.args.t.now c.requires.0 (key_bytes.spell c.args.name.now) c.args.name.now (tag_key_lem c.args.name.now (name_long c.args.name.now c.requires.1).1) _ (sym c.find_tag.ensures.place ∙ c.in-At.is)
+    ∙ remove_laid tags c.args.t.now c.requires.0 (key_bytes.spell c.args.name.now) c.args.name.now (tag_key_lem c.args.name.now (name_long c.args.name.now c.requires.1).1) _ (sym c.find_tag.ensures.place ∙ c.in-Ok.is)

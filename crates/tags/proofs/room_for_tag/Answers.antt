@@ -14,11 +14,11 @@ room_for-requires c =
     let w = formed_well tags c.args.t.now c.requires.0 in
     (omega arith, well_two 50 34 c.args.t.now w, well_count 50 34 c.args.t.now w)
 
-pub returns-in-At : goal.returns-in-At
-returns-in-At c =
-    λ vid f. sym (over_fits tags c.args.t.now c.requires.0 (tag_of (c.args.name.now, vid)) (tag_named c.args.name.now vid c.requires.1 (λ j. (c.type_inv.name j).fits) f) (key_bytes.spell c.args.name.now) (tag_key_lem c.args.name.now (name_long c.args.name.now c.requires.1).1) _ (sym c.find_tag.ensures.place ∙ c.in-At.is))
+pub returns-in-Ok : goal.returns-in-Ok
+returns-in-Ok c =
+    λ vid f. sym (over_fits tags c.args.t.now c.requires.0 (tag_of (c.args.name.now, vid)) (tag_named c.args.name.now vid c.requires.1 (λ j. (c.type_inv.name j).fits) f) (key_bytes.spell c.args.name.now) (tag_key_lem c.args.name.now (name_long c.args.name.now c.requires.1).1) _ (sym c.find_tag.ensures.place ∙ c.in-Ok.is))
 
-pub returns-in-Gap : goal.returns-in-Gap
-returns-in-Gap c =
+pub returns-in-Err : goal.returns-in-Err
+returns-in-Err c =
     λ vid f. c.room_for.ensures
-    ∙ insert_fits tags c.args.t.now c.requires.0 (tag_of (c.args.name.now, vid)) (tag_named c.args.name.now vid c.requires.1 (λ j. (c.type_inv.name j).fits) f) (key_bytes.spell c.args.name.now) (tag_key_lem c.args.name.now (name_long c.args.name.now c.requires.1).1) _ (sym c.find_tag.ensures.place ∙ c.in-Gap.is)
+    ∙ insert_fits tags c.args.t.now c.requires.0 (tag_of (c.args.name.now, vid)) (tag_named c.args.name.now vid c.requires.1 (λ j. (c.type_inv.name j).fits) f) (key_bytes.spell c.args.name.now) (tag_key_lem c.args.name.now (name_long c.args.name.now c.requires.1).1) _ (sym c.find_tag.ensures.place ∙ c.in-Err.is)

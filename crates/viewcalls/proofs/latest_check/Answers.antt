@@ -28,13 +28,13 @@ pub returns-in_default : goal.returns-in_default
 returns-in_default c = no_verdict c.args.volumes.now c.args.commits.now c.args.vid c.args.s (sym c.volumes_formed.ensures ∙ c.if-not-volumes_formed.false) (sym c.commits_formed.ensures ∙ c.if-not-commits_formed.false) (sym c.has_lsns.ensures ∙ c.if-not-has_lsns.false) (sym c.is_ordered.ensures ∙ c.if-not-is_ordered.false) (sym c.is_formed.ensures ∙ c.if-not-is_formed.false) (nowhere c.args.volumes.now c.args.vid (sym c.volumes_formed.ensures ∙ c.if-not-volumes_formed.false) _ _ c.find_volume.ensures.says c.in_default.is)
 
 pub volume_at-requires : goal.volume_at-requires
-volume_at-requires c = ((sym c.volumes_formed.ensures ∙ c.if-not-volumes_formed.false), at_in 117 17 c.args.volumes.now _ _ _ c.find_volume.ensures.place c.in-At.is)
+volume_at-requires c = ((sym c.volumes_formed.ensures ∙ c.if-not-volumes_formed.false), at_in 117 17 c.args.volumes.now _ _ _ c.find_volume.ensures.place c.in-Ok.is)
 
 pub is_latest-requires : goal.is_latest-requires
 is_latest-requires c = ((sym c.commits_formed.ensures ∙ c.if-not-commits_formed.false), form_len c.args.s (sym c.is_formed.ensures ∙ c.if-not-is_formed.false))
 
 pub returns-then-is_latest : goal.returns-then-is_latest
-returns-then-is_latest c = verdict_found c.args.volumes.now c.args.commits.now c.args.vid c.args.s (sym c.volumes_formed.ensures ∙ c.if-not-volumes_formed.false) (sym c.commits_formed.ensures ∙ c.if-not-commits_formed.false) (sym c.has_lsns.ensures ∙ c.if-not-has_lsns.false) (sym c.is_ordered.ensures ∙ c.if-not-is_ordered.false) (sym c.is_formed.ensures ∙ c.if-not-is_formed.false) c.in-At.i c.volume_at.result true (here c.args.volumes.now c.args.vid (sym c.volumes_formed.ensures ∙ c.if-not-volumes_formed.false) _ _ c.find_volume.ensures.says c.in-At.is) c.volume_at.ensures (sym c.if-is_latest.true ∙ c.is_latest.ensures)
+returns-then-is_latest c = verdict_found c.args.volumes.now c.args.commits.now c.args.vid c.args.s (sym c.volumes_formed.ensures ∙ c.if-not-volumes_formed.false) (sym c.commits_formed.ensures ∙ c.if-not-commits_formed.false) (sym c.has_lsns.ensures ∙ c.if-not-has_lsns.false) (sym c.is_ordered.ensures ∙ c.if-not-is_ordered.false) (sym c.is_formed.ensures ∙ c.if-not-is_formed.false) c.in-Ok.i c.volume_at.result true (here c.args.volumes.now c.args.vid (sym c.volumes_formed.ensures ∙ c.if-not-volumes_formed.false) _ _ c.find_volume.ensures.says c.in-Ok.is) c.volume_at.ensures (sym c.if-is_latest.true ∙ c.is_latest.ensures)
 
 pub returns : goal.returns
-returns c = verdict_found c.args.volumes.now c.args.commits.now c.args.vid c.args.s (sym c.volumes_formed.ensures ∙ c.if-not-volumes_formed.false) (sym c.commits_formed.ensures ∙ c.if-not-commits_formed.false) (sym c.has_lsns.ensures ∙ c.if-not-has_lsns.false) (sym c.is_ordered.ensures ∙ c.if-not-is_ordered.false) (sym c.is_formed.ensures ∙ c.if-not-is_formed.false) c.in-At.i c.volume_at.result false (here c.args.volumes.now c.args.vid (sym c.volumes_formed.ensures ∙ c.if-not-volumes_formed.false) _ _ c.find_volume.ensures.says c.in-At.is) c.volume_at.ensures (sym c.if-is_latest.false ∙ c.is_latest.ensures)
+returns c = verdict_found c.args.volumes.now c.args.commits.now c.args.vid c.args.s (sym c.volumes_formed.ensures ∙ c.if-not-volumes_formed.false) (sym c.commits_formed.ensures ∙ c.if-not-commits_formed.false) (sym c.has_lsns.ensures ∙ c.if-not-has_lsns.false) (sym c.is_ordered.ensures ∙ c.if-not-is_ordered.false) (sym c.is_formed.ensures ∙ c.if-not-is_formed.false) c.in-Ok.i c.volume_at.result false (here c.args.volumes.now c.args.vid (sym c.volumes_formed.ensures ∙ c.if-not-volumes_formed.false) _ _ c.find_volume.ensures.says c.in-Ok.is) c.volume_at.ensures (sym c.if-is_latest.false ∙ c.is_latest.ensures)

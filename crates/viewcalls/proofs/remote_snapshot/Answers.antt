@@ -12,13 +12,13 @@ pub returns-in_default : goal.returns-in_default
 returns-in_default c = c.empty.ensures ∙ ap laid (not_synced (commits_in c.args.commits.now) (volume_says c.args.v) _ (ap maybe_lsn_says (sym c.in_default.is) ∙ c.remote_of.ensures))
 
 pub returns-in_default-find_commit : goal.returns-in_default-find_commit
-returns-in_default-find_commit c = c.empty-in_default-find_commit.ensures ∙ ap laid (not_stored (commits_in c.args.commits.now) (volume_says c.args.v) _ c.in-At.lsn.0 (ap maybe_lsn_says (sym c.in-At.is) ∙ c.remote_of.ensures) (place_missing c.args.commits.now _ _ c.find_commit.ensures c.in_default-find_commit.is))
+returns-in_default-find_commit c = c.empty-in_default-find_commit.ensures ∙ ap laid (not_stored (commits_in c.args.commits.now) (volume_says c.args.v) _ c.in-Some.lsn.0 (ap maybe_lsn_says (sym c.in-Some.is) ∙ c.remote_of.ensures) (place_missing c.args.commits.now _ _ c.find_commit.ensures c.in_default-find_commit.is))
 
 pub lsn_at-requires : goal.lsn_at-requires
-lsn_at-requires c = (c.requires, (place_at_lem c.args.commits.now _ _ c.find_commit.ensures c.in-At-find_commit.i c.in-At-find_commit.is).1)
+lsn_at-requires c = (c.requires, (place_at_lem c.args.commits.now _ _ c.find_commit.ensures c.in-Some-find_commit.i c.in-Some-find_commit.is).1)
 
 pub count_at-requires : goal.count_at-requires
-count_at-requires c = (c.requires, (place_at_lem c.args.commits.now _ _ c.find_commit.ensures c.in-At-find_commit.i c.in-At-find_commit.is).1)
+count_at-requires c = (c.requires, (place_at_lem c.args.commits.now _ _ c.find_commit.ensures c.in-Some-find_commit.i c.in-Some-find_commit.is).1)
 
 pub returns : goal.returns
-returns c = c.one_range.ensures ∙ ap laid (stored (commits_in c.args.commits.now) (volume_says c.args.v) _ c.in-At.lsn.0 (ap maybe_lsn_says (sym c.in-At.is) ∙ c.remote_of.ensures) (commit_at c.args.commits.now c.in-At-find_commit.i) (place_at_lem c.args.commits.now _ _ c.find_commit.ensures c.in-At-find_commit.i c.in-At-find_commit.is).0 c.lsn_at.result c.count_at.result c.lsn_at.ensures c.count_at.ensures)
+returns c = c.one_range.ensures ∙ ap laid (stored (commits_in c.args.commits.now) (volume_says c.args.v) _ c.in-Some.lsn.0 (ap maybe_lsn_says (sym c.in-Some.is) ∙ c.remote_of.ensures) (commit_at c.args.commits.now c.in-Some-find_commit.i) (place_at_lem c.args.commits.now _ _ c.find_commit.ensures c.in-Some-find_commit.i c.in-Some-find_commit.is).0 c.lsn_at.result c.count_at.result c.lsn_at.ensures c.count_at.ensures)

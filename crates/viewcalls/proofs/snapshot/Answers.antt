@@ -19,10 +19,10 @@ pub returns-in_default : goal.returns-in_default
 returns-in_default c = c.no_snapshot-in_default.ensures ∙ ap laid_answer (no_snapshot c.args.volumes.now c.args.commits.now c.args.vid (sym c.volumes_formed.ensures ∙ c.if-not-volumes_formed.false) (sym c.commits_formed.ensures ∙ c.if-not-commits_formed.false) (nowhere c.args.volumes.now c.args.vid (sym c.volumes_formed.ensures ∙ c.if-not-volumes_formed.false) _ _ c.find_volume.ensures.says c.in_default.is))
 
 pub volume_at-requires : goal.volume_at-requires
-volume_at-requires c = ((sym c.volumes_formed.ensures ∙ c.if-not-volumes_formed.false), at_in 117 17 c.args.volumes.now _ _ _ c.find_volume.ensures.place c.in-At.is)
+volume_at-requires c = ((sym c.volumes_formed.ensures ∙ c.if-not-volumes_formed.false), at_in 117 17 c.args.volumes.now _ _ _ c.find_volume.ensures.place c.in-Ok.is)
 
 pub snapshot_of-snapshot-requires : goal.snapshot_of-snapshot-requires
 snapshot_of-snapshot-requires c = (sym c.commits_formed.ensures ∙ c.if-not-commits_formed.false)
 
 pub returns : goal.returns
-returns c = snapshot_found c.args.volumes.now c.args.commits.now c.args.vid (sym c.volumes_formed.ensures ∙ c.if-not-volumes_formed.false) (sym c.commits_formed.ensures ∙ c.if-not-commits_formed.false) c.in-At.i c.volume_at.result c.snapshot_of-snapshot.result (here c.args.volumes.now c.args.vid (sym c.volumes_formed.ensures ∙ c.if-not-volumes_formed.false) _ _ c.find_volume.ensures.says c.in-At.is) c.volume_at.ensures c.snapshot_of-snapshot.ensures
+returns c = snapshot_found c.args.volumes.now c.args.commits.now c.args.vid (sym c.volumes_formed.ensures ∙ c.if-not-volumes_formed.false) (sym c.commits_formed.ensures ∙ c.if-not-commits_formed.false) c.in-Ok.i c.volume_at.result c.snapshot_of-snapshot.result (here c.args.volumes.now c.args.vid (sym c.volumes_formed.ensures ∙ c.if-not-volumes_formed.false) _ _ c.find_volume.ensures.says c.in-Ok.is) c.volume_at.ensures c.snapshot_of-snapshot.ensures

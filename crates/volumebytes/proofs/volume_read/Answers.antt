@@ -7,4 +7,4 @@ pub returns : goal.returns
 returns c =
     let t = c.args in
     c.new.ensures
-    ∙ volume_made t.s.now t.at _ _ _ _ _ _ c.load_id-vid.ensures c.load_id-local.ensures c.load_id-remote.ensures c.sync_read-sync.ensures c.pending_read-pending.ensures c.load_hash-hash.ensures
+    ∙ volume_made t.s.now t.at _ _ _ _ _ c.load_id-vid.ensures c.load_id-local.ensures c.load_id-remote.ensures c.sync_read-sync.ensures c.pending_read-pending.ensures

@@ -26,12 +26,12 @@ returns-in_default c = let whole = unchanged volume_bytes c.args.volumes.now _ 4
     record { value = whole.0; volumes_after = whole.1 }
 
 pub volume_at-v-requires : goal.volume_at-v-requires
-volume_at-v-requires c = ((sym c.volumes_formed.ensures ∙ c.if-not-volumes_formed.false), at_in 117 17 c.args.volumes.now _ _ _ c.find_volume.ensures.place c.in-At.is)
+volume_at-v-requires c = ((sym c.volumes_formed.ensures ∙ c.if-not-volumes_formed.false), at_in 117 17 c.args.volumes.now _ _ _ c.find_volume.ensures.place c.in-Ok.is)
 
 pub store_volume-requires : goal.store_volume-requires
-store_volume-requires c = let whole = drop_ready c.args.volumes.now c.args.vid (sym c.volumes_formed.ensures ∙ c.if-not-volumes_formed.false) _ _ c.find_volume.ensures.place c.find_volume.ensures.says c.in-At.is c.volume_at-v.result c.with_pending_commit.result c.volume_at-v.ensures c.with_pending_commit.ensures in
+store_volume-requires c = let whole = drop_ready c.args.volumes.now c.args.vid (sym c.volumes_formed.ensures ∙ c.if-not-volumes_formed.false) _ _ c.find_volume.ensures.place c.find_volume.ensures.says c.in-Ok.is c.volume_at-v.result c.with_pending_commit.result c.volume_at-v.ensures c.with_pending_commit.ensures in
     record { t_value = whole.0; t_value_2 = whole.1 }
 
 pub returns : goal.returns
-returns c = let whole = changed volume_bytes c.args.volumes.now _ _ _ (drop_done c.args.volumes.now c.args.vid (sym c.volumes_formed.ensures ∙ c.if-not-volumes_formed.false) _ _ c.find_volume.ensures.place c.find_volume.ensures.says c.in-At.is c.volume_at-v.result c.with_pending_commit.result c.volume_at-v.ensures c.with_pending_commit.ensures) c.store_volume.ensures in
+returns c = let whole = changed volume_bytes c.args.volumes.now _ _ _ (drop_done c.args.volumes.now c.args.vid (sym c.volumes_formed.ensures ∙ c.if-not-volumes_formed.false) _ _ c.find_volume.ensures.place c.find_volume.ensures.says c.in-Ok.is c.volume_at-v.result c.with_pending_commit.result c.volume_at-v.ensures c.with_pending_commit.ensures) c.store_volume.ensures in
     record { value = whole.0; volumes_after = whole.1 }

@@ -1,4 +1,4 @@
--- The volume of zeros: a missing pending commit has the hash ZERO beside it.
+-- The volume of zeros.
 use Rattle.std.proofs.Common.{ap}
 use Rattle.volumecalls.proofs.no_volume.Goals as goal
 

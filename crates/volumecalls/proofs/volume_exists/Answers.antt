@@ -17,8 +17,8 @@ returns-then-not-volumes_formed c = sym (lent_no _ _ (sym c.volumes_formed.ensur
 pub find_volume-requires : goal.find_volume-requires
 find_volume-requires c = (sym c.volumes_formed.ensures ∙ c.if-not-volumes_formed.false)
 
-pub returns-in-At : goal.returns-in-At
-returns-in-At c = sym (exists_is c.args.volumes.now c.args.vid (sym c.volumes_formed.ensures ∙ c.if-not-volumes_formed.false) ∙ ap (λ (o : Option Volume). done (is_some o)) (sym (here c.args.volumes.now c.args.vid (sym c.volumes_formed.ensures ∙ c.if-not-volumes_formed.false) _ _ c.find_volume.ensures.says c.in-At.is) ∙ row_nth volumes c.args.volumes.now _ (at_in 117 17 c.args.volumes.now _ _ _ c.find_volume.ensures.place c.in-At.is)))
+pub returns-in-Ok : goal.returns-in-Ok
+returns-in-Ok c = sym (exists_is c.args.volumes.now c.args.vid (sym c.volumes_formed.ensures ∙ c.if-not-volumes_formed.false) ∙ ap (λ (o : Option Volume). done (is_some o)) (sym (here c.args.volumes.now c.args.vid (sym c.volumes_formed.ensures ∙ c.if-not-volumes_formed.false) _ _ c.find_volume.ensures.says c.in-Ok.is) ∙ row_nth volumes c.args.volumes.now _ (at_in 117 17 c.args.volumes.now _ _ _ c.find_volume.ensures.place c.in-Ok.is)))
 
-pub returns-in-Gap : goal.returns-in-Gap
-returns-in-Gap c = sym (exists_is c.args.volumes.now c.args.vid (sym c.volumes_formed.ensures ∙ c.if-not-volumes_formed.false) ∙ ap (λ (o : Option Volume). done (is_some o)) (nowhere c.args.volumes.now c.args.vid (sym c.volumes_formed.ensures ∙ c.if-not-volumes_formed.false) _ _ c.find_volume.ensures.says c.in-Gap.is))
+pub returns-in-Err : goal.returns-in-Err
+returns-in-Err c = sym (exists_is c.args.volumes.now c.args.vid (sym c.volumes_formed.ensures ∙ c.if-not-volumes_formed.false) ∙ ap (λ (o : Option Volume). done (is_some o)) (nowhere c.args.volumes.now c.args.vid (sym c.volumes_formed.ensures ∙ c.if-not-volumes_formed.false) _ _ c.find_volume.ensures.says c.in-Err.is))

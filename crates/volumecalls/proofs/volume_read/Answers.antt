@@ -22,7 +22,7 @@ pub returns-in_default : goal.returns-in_default
 returns-in_default c = c.no_volume-in_default.ensures ∙ ap volume_answer (sym (read_is c.args.volumes.now c.args.vid (sym c.volumes_formed.ensures ∙ c.if-not-volumes_formed.false) ∙ ap (λ (o : Option Volume). need o 4) (nowhere c.args.volumes.now c.args.vid (sym c.volumes_formed.ensures ∙ c.if-not-volumes_formed.false) _ _ c.find_volume.ensures.says c.in_default.is)))
 
 pub volume_at-volume-requires : goal.volume_at-volume-requires
-volume_at-volume-requires c = ((sym c.volumes_formed.ensures ∙ c.if-not-volumes_formed.false), at_in 117 17 c.args.volumes.now _ _ _ c.find_volume.ensures.place c.in-At.is)
+volume_at-volume-requires c = ((sym c.volumes_formed.ensures ∙ c.if-not-volumes_formed.false), at_in 117 17 c.args.volumes.now _ _ _ c.find_volume.ensures.place c.in-Ok.is)
 
 pub returns : goal.returns
-returns c = made_of volume_laid (nth c.in-At.i (volumes_in c.args.volumes.now).rows) c.volume_at-volume.result c.volume_at-volume.ensures (λ v e q. ap (λ x. record { code = 0; volume = x }) (sym q) ∙ ap volume_answer (sym (read_is c.args.volumes.now c.args.vid (sym c.volumes_formed.ensures ∙ c.if-not-volumes_formed.false) ∙ ap (λ (o : Option Volume). need o 4) (sym (here c.args.volumes.now c.args.vid (sym c.volumes_formed.ensures ∙ c.if-not-volumes_formed.false) _ _ c.find_volume.ensures.says c.in-At.is) ∙ e))))
+returns c = made_of volume_laid (nth c.in-Ok.i (volumes_in c.args.volumes.now).rows) c.volume_at-volume.result c.volume_at-volume.ensures (λ v e q. ap (λ x. record { code = 0; volume = x }) (sym q) ∙ ap volume_answer (sym (read_is c.args.volumes.now c.args.vid (sym c.volumes_formed.ensures ∙ c.if-not-volumes_formed.false) ∙ ap (λ (o : Option Volume). need o 4) (sym (here c.args.volumes.now c.args.vid (sym c.volumes_formed.ensures ∙ c.if-not-volumes_formed.false) _ _ c.find_volume.ensures.says c.in-Ok.is) ∙ e))))

@@ -17,10 +17,10 @@ returns-in_default c =
 pub remove-requires : goal.remove-requires
 remove-requires c =
     let t = c.args.t.now in
-    (omega arith, at_in 117 17 t (0 ∷ c.args.vid) _ _ c.find_volume.ensures.place c.in-At.is, well_count 117 17 t (formed_well volumes t c.requires))
+    (omega arith, at_in 117 17 t (0 ∷ c.args.vid) _ _ c.find_volume.ensures.place c.in-Ok.is, well_count 117 17 t (formed_well volumes t c.requires))
 
 pub returns : goal.returns
 returns c =
     let long : length c.args.vid ≡ 16 = search rules in
     c.remove.ensures
-    ∙ remove_laid volumes c.args.t.now c.requires (0 ∷ c.args.vid) c.args.vid (volume_key_lem c.args.vid (long)) _ (sym c.find_volume.ensures.place ∙ c.in-At.is)
+    ∙ remove_laid volumes c.args.t.now c.requires (0 ∷ c.args.vid) c.args.vid (volume_key_lem c.args.vid (long)) _ (sym c.find_volume.ensures.place ∙ c.in-Ok.is)

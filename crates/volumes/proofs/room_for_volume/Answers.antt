@@ -1,25 +1,19 @@
--- A stored identifier needs no room (`over_fits`), another needs room for one record more (`insert_fits`).
-use Rattle.std.proofs.Common.{◌≡◌, ◌∷◌, length, sym, ◌∙◌, arith, rules}
-use Rattle.table.proofs.Checks.{well_two, well_count}
+-- The room for the row is the rules': the law `put_fits`.
+use Rattle.std.proofs.Common.{ℕ, List, ap, ◌∙◌, arith}
+use Rattle.table.specs.Records.{put}
+use Rattle.table.specs.Table.{recs, fits}
 use Rattle.volume.specs.Volumes.{volume_says}
 use Rattle.rows.proofs.Rows.{formed_well}
-use Rattle.rows.proofs.Stores.{over_fits, insert_fits}
-use Rattle.rows.proofs.Tables.{volumes, volume_key_lem}
+use Rattle.rows.proofs.Stores.{put_fits}
+use Rattle.rows.proofs.Tables.{volumes}
 use Rattle.volumes.proofs.room_for_volume.Goals as goal
 
-pub room_for-requires : goal.room_for-requires
-room_for-requires c =
-    let w = formed_well volumes c.args.t.now c.requires.0 in
-    (omega arith, well_two 117 17 c.args.t.now w, well_count 117 17 c.args.t.now w)
+pub room-requires : goal.room-requires
+room-requires c = record { stride_nonzero = (omega arith, omega arith, omega arith); t_value = formed_well volumes c.args.t.now c.requires.0 }
 
-pub returns-in-At : goal.returns-in-At
-returns-in-At c =
-    -- an identifier is 16 bytes
-    let long : length c.args.v.vid ≡ 16 = search rules in
-    sym (over_fits volumes c.args.t.now c.requires.0 (volume_says c.args.v) c.requires.1 (0 ∷ c.args.v.vid) (volume_key_lem c.args.v.vid (long)) _ (sym c.find_volume.ensures.place ∙ c.in-At.is))
-
-pub returns-in-Gap : goal.returns-in-Gap
-returns-in-Gap c =
-    let long : length c.args.v.vid ≡ 16 = search rules in
-    c.room_for.ensures
-    ∙ insert_fits volumes c.args.t.now c.requires.0 (volume_says c.args.v) c.requires.1 (0 ∷ c.args.v.vid) (volume_key_lem c.args.v.vid (long)) _ (sym c.find_volume.ensures.place ∙ c.in-Gap.is)
+pub returns : goal.returns
+returns c =
+    let t = c.args.t.now in
+    c.room.ensures
+    ∙ ap (λ (r : List ℕ). fits 117 (put 17 r (recs 117 t)) t) c.volume_row-row.ensures
+    ∙ put_fits volumes t c.requires.0 (volume_says c.args.v) c.requires.1

@@ -1,7 +1,6 @@
 -- The record where the identifier was found gives way: the law `over_laid`.
-use Rattle.std.proofs.Common.{◌≡◌, ℕ, List, ◌∷◌, length, set, sym, refl, ap, ◌∙◌, arith, rules}
+use Rattle.std.proofs.Common.{◌≡◌, ℕ, List, ◌∷◌, length, set, sym, refl, ap, ◌∙◌, arith, rules, Ok}
 use Rattle.table.specs.Table.{recs, laid}
-use Rattle.table.specs.declared.Spot.TheVariants.{At}
 use Rattle.table.proofs.Ends.{at_in}
 use Rattle.table.proofs.Checks.{well_count}
 use Rattle.volume.specs.Volumes.{volume_says}
@@ -12,7 +11,7 @@ use Rattle.volumes.proofs.store_volume.Goals as goal
 
 pub overwrite-requires : goal.overwrite-requires
 overwrite-requires c =
-    (omega arith, at_in 117 17 c.args.t.now (0 ∷ c.args.v.vid) c.args.i (At c.args.i) (sym c.requires.t_value_2) refl, well_count 117 17 c.args.t.now (formed_well volumes c.args.t.now c.requires.t_value.0), search rules)
+    (omega arith, at_in 117 17 c.args.t.now (0 ∷ c.args.v.vid) c.args.i (Ok c.args.i) (sym c.requires.t_value_2) refl, well_count 117 17 c.args.t.now (formed_well volumes c.args.t.now c.requires.t_value.0), search rules)
 
 pub returns : goal.returns
 returns c =

@@ -8,7 +8,7 @@ use Rattle.walkcalls.proofs.count_items.Given as goal
 
 abbrev pub invariant-loop-n : goal.invariant-loop-n
 invariant-loop-n l =
-    (l.n + length (items_from l.commits l.count.0 (places_in l.path.runs) l.k) ≡ length (items_from l.commits l.count.0 (places_in l.path.runs) 0)) × (l.n ≤ l.k) × (l.k ≤ length (places_in l.path.runs)) × (Known (held_by (before l.k (commits_at l.commits (places_in l.path.runs)))) l.tags l.masks l.marks × (length l.left ≡ 32))
+    (l.n + length (items_from l.commits l.count.0 (places_in l.path.runs) l.k) ≡ length (items_from l.commits l.count.0 (places_in l.path.runs) 0)) × (l.n ≤ l.k) × (l.k ≤ length (places_in l.path.runs)) × Known (held_by (before l.k (commits_at l.commits (places_in l.path.runs)))) l.notes
 
 abbrev pub decreases-loop-n : goal.decreases-loop-n
 decreases-loop-n l = length (places_in l.path.runs) - l.k

@@ -11,17 +11,17 @@ returns-then-not-commits_formed c = no_table c.args.commits.now c.args.snapshot.
 pub returns-then-code-ne0 : goal.returns-then-code-ne0
 returns-then-code-ne0 c = no_snapshot c.args.commits.now c.args.snapshot.now c.args.list.now c.args.items.now (sym c.commits_formed.ensures ∙ c.if-not-commits_formed.false) c.snapshot_code-code.result c.snapshot_code-code.ensures c.if-code-ne0.true
 
-pub path_of-path-requires : goal.path_of-path-requires
-path_of-path-requires c = ((sym c.commits_formed.ensures ∙ c.if-not-commits_formed.false), arg_few c.args.snapshot.now c.snapshot_arg-s.result c.snapshot_arg-s.ensures)
+pub of-path-requires : goal.of-path-requires
+of-path-requires c = ((sym c.commits_formed.ensures ∙ c.if-not-commits_formed.false), arg_few c.args.snapshot.now c.snapshot_arg-s.result c.snapshot_arg-s.ensures)
 
 pub has_room-requires : goal.has_room-requires
-has_room-requires c = ((sym c.commits_formed.ensures ∙ c.if-not-commits_formed.false), c.path_of-path.ensures.inside)
+has_room-requires c = ((sym c.commits_formed.ensures ∙ c.if-not-commits_formed.false), c.of-path.ensures.inside)
 
 pub returns-then-not-has_room : goal.returns-then-not-has_room
-returns-then-not-has_room c = no_room c.args.commits.now c.args.snapshot.now c.args.list.now c.args.items.now (sym c.commits_formed.ensures ∙ c.if-not-commits_formed.false) c.snapshot_code-code.result c.snapshot_code-code.ensures c.if-code-ne0.false (items_from c.args.commits.now c.snapshot_arg-s.result.count.0 (places_in c.path_of-path.result.runs) 0) (arg_items c.args.snapshot.now c.snapshot_arg-s.result c.snapshot_arg-s.ensures c.args.commits.now c.path_of-path.result.runs c.path_of-path.ensures) (sym c.has_room.ensures ∙ c.if-not-has_room.true)
+returns-then-not-has_room c = no_room c.args.commits.now c.args.snapshot.now c.args.list.now c.args.items.now (sym c.commits_formed.ensures ∙ c.if-not-commits_formed.false) c.snapshot_code-code.result c.snapshot_code-code.ensures c.if-code-ne0.false (items_from c.args.commits.now c.snapshot_arg-s.result.count.0 (places_in c.of-path.result.runs) 0) (arg_items c.args.snapshot.now c.snapshot_arg-s.result c.snapshot_arg-s.ensures c.args.commits.now c.of-path.result.runs c.of-path.ensures) (sym c.has_room.ensures ∙ c.if-not-has_room.true)
 
 pub put_items-n-requires : goal.put_items-n-requires
-put_items-n-requires c = record { commits_value = ((sym c.commits_formed.ensures ∙ c.if-not-commits_formed.false), c.path_of-path.ensures.inside); runs_in_bounds = leb-true (length (items_from c.args.commits.now c.snapshot_arg-s.result.count.0 (places_in c.path_of-path.result.runs) 0)) (length c.args.list.now / 1003) (sym c.has_room.ensures ∙ c.if-not-has_room.false) }
+put_items-n-requires c = record { commits_value = ((sym c.commits_formed.ensures ∙ c.if-not-commits_formed.false), c.of-path.ensures.inside); runs_in_bounds = leb-true (length (items_from c.args.commits.now c.snapshot_arg-s.result.count.0 (places_in c.of-path.result.runs) 0)) (length c.args.list.now / 1003) (sym c.has_room.ensures ∙ c.if-not-has_room.false) }
 
 pub returns : goal.returns
-returns c = walked c.args.commits.now c.args.snapshot.now c.args.list.now c.args.items.now (sym c.commits_formed.ensures ∙ c.if-not-commits_formed.false) c.snapshot_code-code.result c.snapshot_code-code.ensures c.if-code-ne0.false (items_from c.args.commits.now c.snapshot_arg-s.result.count.0 (places_in c.path_of-path.result.runs) 0) (arg_items c.args.snapshot.now c.snapshot_arg-s.result c.snapshot_arg-s.ensures c.args.commits.now c.path_of-path.result.runs c.path_of-path.ensures) (sym c.has_room.ensures ∙ c.if-not-has_room.false) _ _ c.put_items-n.ensures.list_after c.put_items-n.ensures.value.0
+returns c = walked c.args.commits.now c.args.snapshot.now c.args.list.now c.args.items.now (sym c.commits_formed.ensures ∙ c.if-not-commits_formed.false) c.snapshot_code-code.result c.snapshot_code-code.ensures c.if-code-ne0.false (items_from c.args.commits.now c.snapshot_arg-s.result.count.0 (places_in c.of-path.result.runs) 0) (arg_items c.args.snapshot.now c.snapshot_arg-s.result c.snapshot_arg-s.ensures c.args.commits.now c.of-path.result.runs c.of-path.ensures) (sym c.has_room.ensures ∙ c.if-not-has_room.false) _ _ c.put_items-n.ensures.list_after c.put_items-n.ensures.value.0

@@ -5,7 +5,7 @@ use mathlib.Core.Path.{ap, ap₂, ◌∙◌}
 use native.Mathlib.Omega.{arith}
 use Rattle.octets.specs.Order.{ordering}
 use Rattle.basics.specs.Orders.{next}
-use Rattle.basics.proofs.OrderLaws.{ordering_lex, fronts}
+use Rattle.basics.proofs.OrderLaws.{ordering_lex, ordering_nat_cmp, ordering_of_then, fronts}
 use Rattle.basics.proofs.keys.compare_tags.Goals as goal
 
 pub compare-by_front-requires : goal.compare-by_front-requires
@@ -16,8 +16,9 @@ compare-by_front-requires c =
 
 pub returns : goal.returns
 returns c =
-    c.then_by.ensures
-    ∙ ap₂ next (ap ordering c.compare-by_front.ensures ∙ ordering_lex _ _) c.compare_numbers.ensures
+    ap ordering c.then.ensures
+    ∙ ordering_of_then _ _
+    ∙ ap₂ next (ap ordering c.compare-by_front.ensures ∙ ordering_lex _ _) (ap ordering c.cmp.ensures ∙ ordering_nat_cmp _ _)
     ∙ fronts
     c.args.a.bytes
     c.args.b.bytes
@@ -29,6 +30,6 @@ returns c =
     _
     (search rules)
     (search rules)
-    c.lower-len_a.ensures
-    c.lower-len_b.ensures
-    c.lower.ensures
+    c.min-len_a.ensures
+    c.min-len_b.ensures
+    c.min.ensures

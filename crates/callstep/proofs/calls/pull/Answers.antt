@@ -9,4 +9,4 @@ use Rattle.callstep.proofs.Snaps.{pull_same}
 use Rattle.callstep.proofs.calls.pull.Goals as goal
 
 pub returns : goal.returns
-returns c = let a = c.args in let e = pull_same a.volumes.now a.commits.now a.vid c.id_of.result c.id_of.ensures in record { value = c.sync.ensures.value ∙ ap code e; volumes_after = c.sync.ensures.volumes_after ∙ ap (after volume_bytes (λ (x : Table Volume). x) a.volumes.now) e }
+returns c = let a = c.args in let e = pull_same a.volumes.now a.commits.now a.vid c.id_of.result c.id_of.ensures in record { value = c.number_or_zero.ensures ∙ c.sync.ensures.value ∙ ap code e; volumes_after = c.sync.ensures.volumes_after ∙ ap (after volume_bytes (λ (x : Table Volume). x) a.volumes.now) e }

@@ -1,5 +1,5 @@
--- What is left to store, stored behind the LSNs passed, gives the whole array stored. The measure is what is left. Assumes nothing.
-use Rattle.std.proofs.Common.{◌≡◌, ◌+◌, ◌-◌, ◌*◌, ◌≤◌, length, drop, sym, refl, ap, ◌∙◌, arith, rules}
+-- What is left to store, stored behind the LSNs passed, gives the whole array stored. Assumes nothing.
+use Rattle.std.proofs.Common.{◌≡◌, ◌+◌, ◌*◌, ◌≤◌, length, drop, sym, refl, ap, ◌∙◌, arith, rules}
 use Rattle.octets.specs.Bytes.{put}
 use Rattle.octets.specs.Flat.{flat}
 use Rattle.octets.proofs.Flats.{flat_start, flat_turn, flat_done}
@@ -7,38 +7,18 @@ use Rattle.commitbytes.proofs.LsnLaws.{lsn_spell, lsn_long}
 use Rattle.commitbytes.proofs.lsns.all_write.Goals as goal
 
 pub loop-i-init : goal.loop-i-init
-loop-i-init c = (omega arith, refl, flat_start 8 lsn_spell lsn_long _ _ _)
-
-pub offset_bounds-ns-i : goal.offset_bounds-ns-i
-offset_bounds-ns-i c = omega arith
-
-pub overflow_mul-i : goal.overflow_mul-i
-overflow_mul-i c = omega arith
-
-pub overflow_add-at : goal.overflow_add-at
-overflow_add-at c = omega arith
-
-pub store64-requires : goal.store64-requires
-store64-requires c = omega arith
-
-pub overflow_add-i : goal.overflow_add-i
-overflow_add-i c = omega arith
-
-pub loop-i-smaller : goal.loop-i-smaller
-loop-i-smaller c = omega arith
+loop-i-init c = (refl, flat_start 8 lsn_spell lsn_long _ _ _)
 
 pub loop-i-preserved : goal.loop-i-preserved
 loop-i-preserved c =
     let long : length c.args.ns ≡ 8 = search rules in
     let a = c.args in
     let l = c.loop-i in
-    let n = long in
     let h : a.at + 8 * length a.ns ≤ length l.s = omega arith in (
-      search rules,
       search rules,
       ap (put (a.at + 8 * (l.i + 1)) (flat lsn_spell (drop (l.i + 1) a.ns))) c.store64.ensures
           ∙ flat_turn 8 lsn_spell lsn_long a.at l.i a.ns _ l.s (omega arith) h
-          ∙ l.invariant.2,
+          ∙ l.invariant.1,
     )
 
 pub returns : goal.returns
@@ -46,5 +26,4 @@ returns c =
     let long : length c.args.ns ≡ 8 = search rules in
     let a = c.args in
     let l = c.loop-i in
-    let n = long in
-    sym (flat_done 8 lsn_spell lsn_long a.at l.i a.ns l.s (omega arith)) ∙ l.invariant.2
+    sym (flat_done 8 lsn_spell lsn_long a.at l.i a.ns l.s (omega arith)) ∙ l.invariant.1

@@ -5,12 +5,12 @@ use Rattle.commitbytes.proofs.lsns.lsns_form.Goals as goal
 
 pub returns-then-n-gt8 : goal.returns-then-n-gt8
 returns-then-n-gt8 c =
-    sym (over_8 c.args.s.now (λ j. (c.type_inv.s j).fits) c.args.at c.requires (omega (arith, c.load8-n.ensures)))
+    sym (over_8 c.args.s.now (λ j. (c.type_inv.s j).fits) c.args.at c.requires (omega (arith, (c.from-n.ensures ∙ c.load8.ensures))))
 
 pub returns-then-not-none_zero : goal.returns-then-not-none_zero
 returns-then-not-none_zero c =
-    sym (with_zero c.args.s.now (λ j. (c.type_inv.s j).fits) c.args.at c.requires _ c.load8-n.ensures (omega arith) (sym c.none_zero.ensures ∙ c.if-not-none_zero.true))
+    sym (with_zero c.args.s.now (λ j. (c.type_inv.s j).fits) c.args.at c.requires _ (c.from-n.ensures ∙ c.load8.ensures) (omega arith) (sym c.none_zero.ensures ∙ c.if-not-none_zero.true))
 
 pub returns : goal.returns
 returns c =
-    c.all_zero.ensures ∙ but_clear c.args.s.now (λ j. (c.type_inv.s j).fits) c.args.at c.requires _ c.load8-n.ensures (omega arith) (sym c.none_zero.ensures ∙ c.if-not-none_zero.false)
+    c.all_zero.ensures ∙ but_clear c.args.s.now (λ j. (c.type_inv.s j).fits) c.args.at c.requires _ (c.from-n.ensures ∙ c.load8.ensures) (omega arith) (sym c.none_zero.ensures ∙ c.if-not-none_zero.false)

@@ -1,5 +1,5 @@
--- The array holds the LSNs passed, and zeros past them. The measure is what is left. Assumes nothing.
-use Rattle.std.proofs.Common.{ℕ, ◌+◌, ◌-◌, ◌*◌, length, set, ap, ◌∙◌, arith, rules}
+-- The array holds the LSNs passed, and zeros past them. Assumes nothing.
+use Rattle.std.proofs.Common.{ℕ, ◌+◌, ◌*◌, length, set, ap, ◌∙◌, arith, rules}
 use Rattle.octets.specs.Bytes.{be, part}
 use Rattle.octets.proofs.Tabs.{tab_none, tab_more}
 use Rattle.basics.specs.declared.lsn.Lsn.{Lsn}
@@ -8,44 +8,23 @@ use Rattle.basics.specs.Says.{lsn_laid}
 use Rattle.commitbytes.proofs.LsnLaws.{lsns_made}
 use Rattle.commitbytes.proofs.lsns.lsns_read.Goals as goal
 
-pub count_read-n-requires : goal.count_read-n-requires
-count_read-n-requires c = omega arith
-
 pub loop-i-init : goal.loop-i-init
-loop-i-init c = (omega arith, ap length c.no_checkpoints-ns.ensures, c.no_checkpoints-ns.ensures ∙ tab_none _ _)
-
-pub overflow_add-at : goal.overflow_add-at
-overflow_add-at c = omega arith
-
-pub overflow_mul-i : goal.overflow_mul-i
-overflow_mul-i c = omega arith
-
-pub overflow_add-at-in-loop-i : goal.overflow_add-at-in-loop-i
-overflow_add-at-in-loop-i c = omega arith
+loop-i-init c = (ap length c.no_checkpoints-ns.ensures, c.no_checkpoints-ns.ensures ∙ tab_none _ _)
 
 pub load64-requires : goal.load64-requires
 load64-requires c = omega (arith, c.count_read-n.ensures)
 
-pub offset_bounds-ns-i : goal.offset_bounds-ns-i
-offset_bounds-ns-i c = omega arith
-
 pub bounds-ns-i : goal.bounds-ns-i
 bounds-ns-i c = omega (arith, c.count_read-n.ensures)
-
-pub overflow_add-i : goal.overflow_add-i
-overflow_add-i c = omega arith
-
-pub loop-i-smaller : goal.loop-i-smaller
-loop-i-smaller c = omega arith
 
 pub loop-i-preserved : goal.loop-i-preserved
 loop-i-preserved c =
     let a = c.args in
     let l = c.loop-i in
     let f : ℕ → Lsn = λ k. lsn_laid (be (part (a.at + 1 + k * 8) 8 a.s.now)) in
-    (search rules, search rules, ap (λ (w : ℕ). set l.ns l.i (lsn_laid w)) c.load64.ensures ∙ tab_more f zero_lsns l.ns (lsn_laid 0) l.i l.invariant.2 (omega (arith, c.count_read-n.ensures)))
+    (search rules, ap (λ (w : ℕ). set l.ns l.i (lsn_laid w)) c.load64.ensures ∙ tab_more f zero_lsns l.ns (lsn_laid 0) l.i l.invariant.1 (omega (arith, c.count_read-n.ensures)))
 
 pub returns : goal.returns
 returns c =
     let l = c.loop-i in
-    lsns_made c.args.s.now c.args.at c.requires _ c.count_read-n.ensures l.ns l.i l.invariant.2 (omega arith)
+    lsns_made c.args.s.now c.args.at c.requires _ c.count_read-n.ensures l.ns l.i l.invariant.1 (omega arith)

@@ -1,5 +1,5 @@
--- The invariant: whether a commit left lists it is whether one of all does. The measure is how many are left.
-use Rattle.std.proofs.Common.{◌≡◌, ◌-◌, length}
+-- The invariant: whether a commit left lists it is whether one of all does.
+use Rattle.std.proofs.Common.{◌≡◌, length}
 use Rattle.rules.specs.Lists.{any}
 use Rattle.rules.specs.Walk.{path_commits}
 use Rattle.layout.specs.Tables.{commits_in}
@@ -9,8 +9,5 @@ use Rattle.copies.proofs.room.listed_later.Given as goal
 
 abbrev pub invariant-loop-k : goal.invariant-loop-k
 invariant-loop-k l =
-    is_left l.rest × (l.k ≡ length (path_commits (commits_in l.commits) (left_says l.rest)))
+    is_left l.rest × (l._k ≡ length (path_commits (commits_in l.commits) (left_says l.rest)))
     × (any (lists l.lsn) (path_commits (commits_in l.commits) (left_says l.rest)) ≡ any (lists l.lsn) (path_commits (commits_in l.commits) (left_says l.initial.rest)))
-
-abbrev pub decreases-loop-k : goal.decreases-loop-k
-decreases-loop-k l = l.k

@@ -1,4 +1,4 @@
--- The invariant: what was counted and what the commits left add make up the whole. The measure is how many are left.
+-- The invariant: what was counted and what the commits left add make up the whole.
 use Rattle.std.proofs.Common.{◌-◌, arith}
 use Rattle.layout.specs.Tables.{checkpoints_in}
 use Rattle.paths.specs.Left.{is_left}
@@ -12,18 +12,12 @@ loop-k-init c = (c.requires.is_left.0, c.requires.is_left.1, omega arith, omega 
 pub next_commit-met-requires : goal.next_commit-met-requires
 next_commit-met-requires c = record { commits_value = (c.requires.commits_value.0, c.loop-k.invariant.0); nonzero = omega (arith, c.loop-k.invariant.1) }
 
-pub overflow_sub-k : goal.overflow_sub-k
-overflow_sub-k c = omega arith
-
 pub new_checkpoints_of-total-requires : goal.new_checkpoints_of-total-requires
 new_checkpoints_of-total-requires c = record { commits_value = (c.requires.commits_value.0, c.requires.commits_value.1, c.next_commit-met.ensures.inside); is_left = ((c.next_commit-met.ensures.is_left, one_fewer c.args.commits.now c.loop-k.rest c.loop-k.k c.loop-k.invariant.1 c.next_commit-met.result c.next_commit-met.ensures (c.loop-k.k - 1) (omega arith))) }
 
 pub overflow_add-total : goal.overflow_add-total
 overflow_add-total c =
     omega (arith, c.new_checkpoints_of-total.ensures.1, c.loop-k.invariant.2, c.requires.is_left.1, left_small c.args.commits.now c.requires.commits_value.0 c.args.left (places c.args.left _ c.well_formed.1.1.0))
-
-pub loop-k-smaller : goal.loop-k-smaller
-loop-k-smaller c = omega arith
 
 pub loop-k-preserved : goal.loop-k-preserved
 loop-k-preserved c =

@@ -1,5 +1,5 @@
--- The invariant: what was counted and what the commits left add make up the whole. The measure is how many are left.
-use Rattle.std.proofs.Common.{◌≡◌, ◌+◌, ◌-◌, ◌*◌, ◌≤◌, length}
+-- The invariant: what was counted and what the commits left add make up the whole.
+use Rattle.std.proofs.Common.{◌≡◌, ◌+◌, ◌*◌, ◌≤◌, length}
 use Rattle.basics.specs.Orders.{log_lsn}
 use Rattle.rules.specs.Records.{checkpoint_key}
 use Rattle.rules.specs.Write.{checkpoints_of}
@@ -15,6 +15,3 @@ invariant-loop-k l =
     is_left l.rest × (l.k ≡ length (path_commits (commits_in l.commits) (left_says l.rest))) × (l.total + 8 * l.k ≤ 8 * l.n)
     × (news checkpoint_key log_lsn (each checkpoints_of (renumbered l.log (path_commits (commits_in l.commits) (left_says l.initial.rest)))) (checkpoints_in l.checkpoints).rows
     ≡ l.total + news checkpoint_key log_lsn (each checkpoints_of (renumbered l.log (path_commits (commits_in l.commits) (left_says l.rest)))) (checkpoints_in l.checkpoints).rows)
-
-abbrev pub decreases-loop-k : goal.decreases-loop-k
-decreases-loop-k l = l.k

@@ -1,4 +1,4 @@
--- The invariant: what was counted and what the LSNs from here on add make up the whole. The measure is how many are left.
+-- The invariant: what was counted and what the LSNs from here on add make up the whole.
 use Rattle.std.proofs.Common.{ℕ, ◌+◌, ◌-◌, List, ◌++◌, map, ap, arith}
 use Rattle.basics.specs.Orders.{log_lsn}
 use Rattle.rules.specs.Records.{Checkpoint, checkpoint_key}
@@ -22,14 +22,14 @@ others commits checkpoints left log = each checkpoints_of (renumbered log (path_
 pub overflow_add-at : goal.overflow_add-at
 overflow_add-at c = omega (arith, c.row-at.ensures)
 
-pub count_read-m-requires : goal.count_read-m-requires
-count_read-m-requires c = omega (arith, c.row-at.ensures)
+pub count_read-n-requires : goal.count_read-n-requires
+count_read-n-requires c = omega (arith, c.row-at.ensures)
 
 pub overflow_add-from : goal.overflow_add-from
 overflow_add-from c = omega (arith, c.row-at.ensures)
 
 pub loop-m-init : goal.loop-m-init
-loop-m-init c = (omega (arith, c.row-at.ensures, c.count_read-m.ensures), omega (arith, c.count_read-m.ensures), omega arith)
+loop-m-init c = (omega (arith, c.row-at.ensures, c.count_read-n.ensures), omega (arith, c.count_read-n.ensures), omega arith)
 
 pub load64-lsn-requires : goal.load64-lsn-requires
 load64-lsn-requires c = omega (arith, c.loop-m.invariant.0)
@@ -37,17 +37,11 @@ load64-lsn-requires c = omega (arith, c.loop-m.invariant.0)
 pub overflow_add-from-in-loop-m : goal.overflow_add-from-in-loop-m
 overflow_add-from-in-loop-m c = omega (arith, c.loop-m.invariant.0)
 
-pub overflow_sub-m : goal.overflow_sub-m
-overflow_sub-m c = omega arith
-
 pub new_checkpoint-total-requires : goal.new_checkpoint-total-requires
 new_checkpoint-total-requires c = record { commits_value = (c.requires.commits_value.0, c.requires.commits_value.1, omega (arith, c.loop-m.invariant.0)); is_left = c.requires.is_left }
 
 pub overflow_add-total : goal.overflow_add-total
 overflow_add-total c = omega (arith, c.loop-m.invariant.1, c.new_checkpoint-total.ensures, lacks_le checkpoint_key log_lsn (c.args.log, c.load64-lsn.result) (map (checkpoint c.args.log) (lsns_at (c.loop-m.m - 1) (c.loop-m.from + 8) c.args.commits.now) ++ others c.args.commits.now c.args.checkpoints.now c.args.left c.args.log))
-
-pub loop-m-smaller : goal.loop-m-smaller
-loop-m-smaller c = omega arith
 
 pub loop-m-preserved : goal.loop-m-preserved
 loop-m-preserved c =
@@ -60,5 +54,5 @@ loop-m-preserved c =
 pub returns : goal.returns
 returns c =
     let z = news_end c.args.log c.loop-m.from c.loop-m.m c.args.commits.now (others c.args.commits.now c.args.checkpoints.now c.args.left c.args.log) (omega arith) in
-    let w = ap (λ (ns : List ℕ). news checkpoint_key log_lsn (map (checkpoint c.args.log) ns) (others c.args.commits.now c.args.checkpoints.now c.args.left c.args.log)) (row_lists c.args.commits.now c.args.row c.row-at.result c.count_read-m.result c.row-at.ensures.0 c.row-at.ensures.1 c.count_read-m.ensures) in
+    let w = ap (λ (ns : List ℕ). news checkpoint_key log_lsn (map (checkpoint c.args.log) ns) (others c.args.commits.now c.args.checkpoints.now c.args.left c.args.log)) (row_lists c.args.commits.now c.args.row c.row-at.result c.count_read-n.result c.row-at.ensures.0 c.row-at.ensures.1 c.count_read-n.ensures) in
     (omega (arith, z, w, c.loop-m.invariant.2), omega (arith, c.loop-m.invariant.1))

@@ -1,5 +1,5 @@
--- The invariant: what was counted and what the LSNs from here on add make up the whole. The measure is how many are left.
-use Rattle.std.proofs.Common.{◌≡◌, ℕ, ◌+◌, ◌-◌, ◌*◌, ◌≤◌, List, ◌++◌, map, length}
+-- The invariant: what was counted and what the LSNs from here on add make up the whole.
+use Rattle.std.proofs.Common.{◌≡◌, ℕ, ◌+◌, ◌*◌, ◌≤◌, List, ◌++◌, map, length}
 use Rattle.basics.specs.Orders.{log_lsn}
 use Rattle.rules.specs.Records.{Checkpoint, checkpoint_key}
 use Rattle.rules.specs.Write.{checkpoints_of}
@@ -20,8 +20,5 @@ others commits checkpoints left log = each checkpoints_of (renumbered log (path_
 abbrev pub invariant-loop-m : goal.invariant-loop-m
 invariant-loop-m l =
     (l.from + l.m * 8 ≤ length l.commits) × (l.total + l.m ≤ 8)
-    × (news checkpoint_key log_lsn (map (checkpoint l.log) (lsns_at l.initial.m l.initial.from l.commits)) (others l.commits l.checkpoints l.left l.log)
+    × (news checkpoint_key log_lsn (map (checkpoint l.log) (lsns_at l.n l.initial.from l.commits)) (others l.commits l.checkpoints l.left l.log)
     ≡ l.total + news checkpoint_key log_lsn (map (checkpoint l.log) (lsns_at l.m l.from l.commits)) (others l.commits l.checkpoints l.left l.log))
-
-abbrev pub decreases-loop-m : goal.decreases-loop-m
-decreases-loop-m l = l.m

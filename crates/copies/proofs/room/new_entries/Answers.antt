@@ -1,5 +1,5 @@
--- The invariant: what was counted and what the commits left add make up the whole. The measure is how many are left.
-use Rattle.std.proofs.Common.{◌-◌, arith}
+-- The invariant: what was counted and what the commits left add make up the whole.
+use Rattle.std.proofs.Common.{◌≡◌, ◌+◌, ◌-◌, arith}
 use Rattle.layout.specs.Tables.{index_in}
 use Rattle.paths.specs.Left.{is_left}
 use Rattle.paths.proofs.LeftLaws.{places, left_small}
@@ -22,15 +22,11 @@ pub overflow_add-total : goal.overflow_add-total
 overflow_add-total c =
     omega (arith, c.new_entries_of-total.ensures.1, c.loop-k.invariant.2, c.requires.is_left.1, left_small c.args.commits.now c.requires.commits_value.0 c.args.left (places c.args.left _ c.well_formed.1.1.0))
 
-pub overflow_sub-k : goal.overflow_sub-k
-overflow_sub-k c = omega arith
-
-pub loop-k-smaller : goal.loop-k-smaller
-loop-k-smaller c = omega arith
-
 pub loop-k-preserved : goal.loop-k-preserved
 loop-k-preserved c =
-    let e = entries_next c.args.commits.now c.loop-k.rest c.loop-k.k c.loop-k.invariant.1 c.next_commit-met.result c.next_commit-met.ensures c.args.log (index_in c.args.index.now).rows c.copied_row-c.result c.copied_row-c.ensures.1 c.new_entries_of-total.result c.new_entries_of-total.ensures.0 in (
+    let z : (c.loop-k.k - 1) + 1 ≡ c.loop-k.k = omega arith in
+    let is = rw z at c.copied_row-c.ensures.1 in
+    let e = entries_next c.args.commits.now c.loop-k.rest c.loop-k.k c.loop-k.invariant.1 c.next_commit-met.result c.next_commit-met.ensures c.args.log (index_in c.args.index.now).rows c.copied_row-c.result is c.new_entries_of-total.result c.new_entries_of-total.ensures.0 in (
       c.next_commit-met.ensures.is_left,
       one_fewer c.args.commits.now c.loop-k.rest c.loop-k.k c.loop-k.invariant.1 c.next_commit-met.result c.next_commit-met.ensures (c.loop-k.k - 1) (omega arith),
       omega (arith, c.new_entries_of-total.ensures.1, c.loop-k.invariant.2),

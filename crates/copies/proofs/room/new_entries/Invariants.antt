@@ -1,5 +1,5 @@
--- The invariant: what was counted and what the commits left add make up the whole. The measure is how many are left.
-use Rattle.std.proofs.Common.{◌≡◌, ◌+◌, ◌-◌, ◌*◌, ◌≤◌, length}
+-- The invariant: what was counted and what the commits left add make up the whole.
+use Rattle.std.proofs.Common.{◌≡◌, ◌+◌, ◌*◌, ◌≤◌, length}
 use Rattle.basics.specs.Orders.{log_page_lsn}
 use Rattle.rules.specs.Records.{entry_key}
 use Rattle.rules.specs.Write.{entries_of}
@@ -15,6 +15,3 @@ invariant-loop-k l =
     is_left l.rest × (l.k ≡ length (path_commits (commits_in l.commits) (left_says l.rest))) × (l.total + 2048 * l.k ≤ 2048 * l.n)
     × (news entry_key log_page_lsn (each entries_of (renumbered l.log (path_commits (commits_in l.commits) (left_says l.initial.rest)))) (index_in l.index).rows
     ≡ l.total + news entry_key log_page_lsn (each entries_of (renumbered l.log (path_commits (commits_in l.commits) (left_says l.rest)))) (index_in l.index).rows)
-
-abbrev pub decreases-loop-k : goal.decreases-loop-k
-decreases-loop-k l = l.k

@@ -1,36 +1,18 @@
--- The windows passed were zero, so the test of what is left is the test of them all. The measure is what is left. Assumes nothing.
-use Rattle.std.proofs.Common.{◌-◌, sym, refl, ◌∙◌, arith}
-use Rattle.pageset.proofs.WalkLaws.{long_of}
-use Rattle.pageset.proofs.TestLaws.{blank_index, blank_mask, blank_step, blank_end}
+-- The chain tests each window past those that count, which is what `blank` does one by one. Assumes nothing.
+use Rattle.std.proofs.Common.{rules, ◌≡◌, ℕ, ◌-◌, ◌&&◌, eqb, length, take, drop, sym, ap, ◌∙◌, length-drop}
+use Rattle.std.proofs.Math.Seq.{take-length}
+use borrow.Author.Tests.{tests}
+use Rattle.std.proofs.lemmas.Iterator.{YieldsList-from_slice}
+use Rattle.std.proofs.lemmas.Iterator.Search.{all_from_yields_List}
+use Rattle.pageset.specs.declared.Window.{Window}
+use Rattle.pageset.proofs.TestLaws.{all_zero}
 use Rattle.pageset.proofs.form.clear_past.Goals as goal
-
-pub loop-i-init : goal.loop-i-init
-loop-i-init c = (omega arith, refl)
-
-pub offset_bounds-ws-i : goal.offset_bounds-ws-i
-offset_bounds-ws-i c = omega arith
-
-pub bounds-ws-i : goal.bounds-ws-i
-bounds-ws-i c = omega arith
-
-pub returns-then-w-ne0 : goal.returns-then-w-ne0
-returns-then-w-ne0 c =
-    sym (blank_index c.args.s.windows (long_of c.args.s _ c.well_formed.0) c.loop-i.i (omega arith) c.if-w-ne0.true) ∙ c.loop-i.invariant.1
-
-pub returns-then-w-ne0-2 : goal.returns-then-w-ne0-2
-returns-then-w-ne0-2 c =
-    sym (blank_mask c.args.s.windows (long_of c.args.s _ c.well_formed.0) c.loop-i.i (omega arith) c.if-w-ne0-2.true) ∙ c.loop-i.invariant.1
-
-pub overflow_add-i : goal.overflow_add-i
-overflow_add-i c = omega arith
-
-pub loop-i-smaller : goal.loop-i-smaller
-loop-i-smaller c = omega arith
-
-pub loop-i-preserved : goal.loop-i-preserved
-loop-i-preserved c =
-    (omega arith, sym (blank_step c.args.s.windows (long_of c.args.s _ c.well_formed.0) c.loop-i.i (omega arith) c.if-w-ne0.false c.if-w-ne0-2.false) ∙ c.loop-i.invariant.1)
 
 pub returns : goal.returns
 returns c =
-    sym (blank_end c.args.s.windows (long_of c.args.s _ c.well_formed.0) c.loop-i.i (omega arith)) ∙ c.loop-i.invariant.1
+    let ws = c.args.s.windows in
+    let past = drop c.args.s.len ws in
+    let e : length ws - c.args.s.len ≡ length past = sym (length-drop c.args.s.len ws) in
+    let all : c.iter.result.rest.now ≡ past = c.iter.ensures.rest ∙ ap (λ (k : ℕ). take k past) e ∙ take-length past in
+    all_from_yields_List (λ (w : Window). eqb w.index 0 && eqb w.mask 0) _ _ _ c.all.ensures.ran (YieldsList-from_slice past all) (λ x b q k. search (rules, tests))
+    ∙ all_zero past

@@ -1,11 +1,7 @@
--- The loop looks for index q: what is left of the windows has the mask of them all. The measure is what is left.
--- Assumes nothing.
-use Rattle.std.proofs.Common.{◌≡◌, ◌-◌, ◌≤◌, take, drop}
+-- The loop looks for index q: what is left of the windows has the mask of them all. Assumes nothing.
+use Rattle.std.proofs.Common.{◌≡◌, drop}
 use Rattle.pageset.specs.Sets.{mask_at}
 use Rattle.pageset.proofs.form.mask_at.Given as goal
 
-abbrev pub invariant-loop-i : goal.invariant-loop-i
-invariant-loop-i l = (l.i ≤ l.n) × (mask_at (drop l.i (take l.n l.ws)) l.q ≡ mask_at (take l.n l.ws) l.q)
-
-abbrev pub decreases-loop-i : goal.decreases-loop-i
-decreases-loop-i l = l.n - l.i
+abbrev pub invariant-loop-w : goal.invariant-loop-w
+invariant-loop-w l = mask_at (drop l.w-index l.w-items) l.q ≡ mask_at l.w-items l.q

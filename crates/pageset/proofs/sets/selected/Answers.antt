@@ -1,76 +1,48 @@
--- What the windows passed left of their masks stands in the new array; with what the windows to come will leave it is what they all leave.
--- The measure is what is left to walk. Assumes nothing.
-use Rattle.std.proofs.Common.{◌≡◌, ℕ, ◌+◌, ◌-◌, ◌^◌, Bool, cond, ◌&&◌, get_or, set, ap, ◌∙◌, arith}
+-- What the windows passed left of their masks stands in the new set; with what the windows to come will leave it is what they all leave.
+-- Assumes nothing.
+use Rattle.std.proofs.Common.{◌≡◌, ℕ, ◌-◌, ◌^◌, Bool, cond, ◌&&◌, get_or, ap, ◌∙◌, arith}
 use lib.Bits.{bit_and}
 use Rattle.pageset.specs.Sets.{shown, member, zero_window}
-use Rattle.pageset.specs.Windows.{span_mask, window_of}
-use Rattle.pageset.proofs.FormLaws.{Normal, normal_fact}
-use Rattle.pageset.proofs.WalkLaws.{made, rises_at}
+use Rattle.pageset.proofs.FormLaws.{Normal, normal_fact, shown_length}
+use Rattle.pageset.proofs.EdgeLaws.{nth}
 use Rattle.pageset.proofs.RangeLaws.{side_mask, side_page, side_picked}
-use Rattle.pageset.proofs.MaskLaws.{Walked, walk_start, walk_step, walk_normal, walk_member}
+use Rattle.pageset.proofs.MaskLaws.{walk_start, walk_push, walk_normal, walk_member}
 use Rattle.pageset.proofs.ResultLaws.{is_set}
 use Rattle.pageset.proofs.sets.selected.Goals as goal
 
-pub loop-i-init : goal.loop-i-init
-loop-i-init c =
+pub shared_ref_as_front-w-items : goal.shared_ref_as_front-w-items
+shared_ref_as_front-w-items c = let t = (normal_fact c.args.s c.requires.s_value).tidy in omega (arith, t.short, t.whole)
+
+pub loop-w-init : goal.loop-w-init
+loop-w-init c = rw c.empty-set.ensures (walk_start (side_mask c.args.inside c.args.lo c.args.hi) (shown c.args.s))
+
+pub span_mask-requires-clause-q_bound : goal.span_mask-requires-clause-q_bound
+span_mask-requires-clause-q_bound c =
     let its : Normal c.args.s = normal_fact c.args.s c.requires.s_value in
-    (omega arith, (its).tidy.short, omega arith, walk_start _ _)
+    (nth 0 (shown c.args.s) c.loop-w.w-index its.rising (omega arith)).high
 
-pub offset_bounds-from-i : goal.offset_bounds-from-i
-offset_bounds-from-i c = omega arith
-
-pub bounds-from-i : goal.bounds-from-i
-bounds-from-i c = omega arith
-
-pub span_mask-requires : goal.span_mask-requires
-span_mask-requires c =
+pub push-requires : goal.push-requires
+push-requires c =
     let its : Normal c.args.s = normal_fact c.args.s c.requires.s_value in
-    record { q_bound = rises_at c.args.s (its) c.loop-i.i (omega arith); lo_nonzero = omega arith }
+    omega (arith, c.loop-w.invariant.few, shown_length c.args.s its.tidy, its.tidy.short)
 
-pub picked-m-requires : goal.picked-m-requires
-picked-m-requires c = omega arith
-
-pub window_of-requires : goal.window_of-requires
-window_of-requires c = omega arith
-
-pub offset_bounds-ws-n : goal.offset_bounds-ws-n
-offset_bounds-ws-n c = omega arith
-
-pub bounds-ws-n : goal.bounds-ws-n
-bounds-ws-n c = omega arith
-
-pub one_if-n-requires : goal.one_if-n-requires
-one_if-n-requires c = omega arith
-
-pub overflow_add-n : goal.overflow_add-n
-overflow_add-n c = omega arith
-
-pub overflow_add-i : goal.overflow_add-i
-overflow_add-i c = omega arith
-
-pub loop-i-smaller : goal.loop-i-smaller
-loop-i-smaller c = omega arith
-
-pub loop-i-preserved : goal.loop-i-preserved
-loop-i-preserved c =
+pub loop-w-preserved : goal.loop-w-preserved
+loop-w-preserved c =
     let its : Normal c.args.s = normal_fact c.args.s c.requires.s_value in
-    let i = c.loop-i.i in
-    let m = (get_or c.args.s.windows i zero_window).mask in
+    let i = c.loop-w.w-index in
+    let w = get_or (shown c.args.s) i zero_window in
     let k = c.span_mask.result in
-    let e : c.picked-m.result ≡ bit_and m (side_mask c.args.inside c.args.lo c.args.hi (get_or c.args.s.windows i zero_window).index) =
-    c.picked-m.ensures ∙ side_picked c.args.inside m k ((2 ^ 64 - 1) - k)
-    ∙ ap (λ (z : ℕ). bit_and m (cond c.args.inside z ((2 ^ 64 - 1) - z))) c.span_mask.ensures in
-    let w : Walked (side_mask c.args.inside c.args.lo c.args.hi) (shown c.args.s) (i + 1) (made (c.loop-i.n + c.one_if-n.result) (set c.loop-i.ws c.loop-i.n c.window_of.result)) =
-    walk_step (side_mask c.args.inside c.args.lo c.args.hi) c.args.s (its).tidy i c.loop-i.n c.loop-i.ws (omega arith) c.loop-i.invariant.3
-    c.picked-m.result
-    e
-    c.window_of.result c.window_of.ensures c.one_if-n.result c.one_if-n.ensures.0 in
-    (omega arith, omega arith, w.few, w)
+    let e : c.picked.result ≡ bit_and w.mask (side_mask c.args.inside c.args.lo c.args.hi w.index) =
+    c.picked.ensures ∙ side_picked c.args.inside w.mask k ((2 ^ 64 - 1) - k)
+    ∙ ap (λ (z : ℕ). bit_and w.mask (cond c.args.inside z ((2 ^ 64 - 1) - z))) c.span_mask.ensures in
+    rw c.push.ensures (walk_push (side_mask c.args.inside c.args.lo c.args.hi) (shown c.args.s) i c.loop-w.set (omega arith)
+    (omega (arith, shown_length c.args.s its.tidy, its.tidy.short)) c.loop-w.invariant c.picked.result e)
 
 pub returns : goal.returns
 returns c =
-    let its : Normal c.args.s = normal_fact c.args.s c.requires.s_value in
+    let s = c.args.s in
+    let its : Normal s = normal_fact s c.requires.s_value in
     let g = side_mask c.args.inside c.args.lo c.args.hi in
-    is_set _ _ (walk_normal g c.args.s (its) c.loop-i.i (made c.loop-i.n c.loop-i.ws) (omega arith) c.loop-i.invariant.3)
-    (λ p. walk_member g c.args.s (its) c.loop-i.i (made c.loop-i.n c.loop-i.ws) (omega arith) c.loop-i.invariant.3 p
-    ∙ ap (λ (b : Bool). member c.args.s p && b) (side_page c.args.inside c.args.lo c.args.hi c.requires.lo_nonzero p))
+    is_set _ _ (walk_normal g s its c.loop-w.w-index c.loop-w.set (omega (arith, shown_length s its.tidy)) c.loop-w.invariant)
+    (λ p. walk_member g s its c.loop-w.w-index c.loop-w.set (omega (arith, shown_length s its.tidy)) c.loop-w.invariant p
+    ∙ ap (λ (b : Bool). member s p && b) (side_page c.args.inside c.args.lo c.args.hi c.requires.lo_nonzero p))

@@ -1,7 +1,6 @@
 -- The two tests find the lower index, and with it which side has a window there. Assumes nothing.
-use Rattle.std.proofs.Common.{◌≡◌, ℕ, ◌<◌, ◌≤◌, min, sym, refl, arith, eq-eqb, ne_eqb}
+use Rattle.std.proofs.Common.{◌≡◌, ◌<◌, min, sym, refl, arith, eq-eqb, ne_eqb}
 use Rattle.pageset.specs.declared.Window.{Window}
-use Rattle.pageset.specs.declared.walk.Turn.{Turn}
 use Rattle.pageset.specs.Windows.{turn_of}
 use Rattle.pageset.proofs.walk.next_turn.Goals as goal
 

@@ -1,5 +1,5 @@
--- After i turns the first i frames stand in the list, one after another, each in its 417 bytes. The measure is what is left. Assumes nothing.
-use Rattle.std.proofs.Common.{◌≡◌, ◌-◌, ◌≤◌, length, take}
+-- After i turns the first i frames stand in the list, one after another, each in its 417 bytes. Assumes nothing.
+use Rattle.std.proofs.Common.{◌≡◌, length, take}
 use Rattle.rules.specs.Frames.{parts_of}
 use Rattle.layout.specs.Values.{part_bytes}
 use Rattle.resultlists.proofs.EntryLaws.{Listed}
@@ -7,7 +7,4 @@ use Rattle.segmentargs.specs.Lists.{segment_in}
 use Rattle.segmentargs.proofs.lists.write_frames.Given as goal
 
 abbrev pub invariant-loop-i : goal.invariant-loop-i
-invariant-loop-i l = (l.i ≤ l.n) × (length l.list ≡ length l.initial.list) × Listed part_bytes 417 l.initial.list (take l.i (parts_of (segment_in 0 l.b))) l.list
-
-abbrev pub decreases-loop-i : goal.decreases-loop-i
-decreases-loop-i l = l.n - l.i
+invariant-loop-i l = (length l.list ≡ length l.initial.list) × Listed part_bytes 417 l.initial.list (take l.i (parts_of (segment_in 0 l.b))) l.list

@@ -1,5 +1,5 @@
--- The array holds the frames passed, and zeros past them. The measure is what is left. Assumes nothing.
-use Rattle.std.proofs.Common.{ℕ, ◌+◌, ◌-◌, ◌*◌, length, set, ap, ◌∙◌, arith, rules}
+-- The array holds the frames passed, and zeros past them. Assumes nothing.
+use Rattle.std.proofs.Common.{ℕ, ◌+◌, ◌*◌, length, set, ap, ◌∙◌, arith, rules}
 use Rattle.octets.specs.Bytes.{part}
 use Rattle.octets.proofs.Tabs.{tab_none, tab_more}
 use Rattle.commit.specs.declared.Frame.{Frame}
@@ -9,44 +9,23 @@ use Rattle.segmentbytes.specs.Laid.{frame_laid}
 use Rattle.segmentbytes.proofs.DomainLaws.{frames_made}
 use Rattle.segmentbytes.proofs.frames.frames_read.Goals as goal
 
-pub count_read-n-requires : goal.count_read-n-requires
-count_read-n-requires c = omega arith
-
 pub loop-i-init : goal.loop-i-init
-loop-i-init c = (omega arith, ap length c.no_frames-fs.ensures, c.no_frames-fs.ensures ∙ tab_none _ _)
+loop-i-init c = (ap length c.no_frames-fs.ensures, c.no_frames-fs.ensures ∙ tab_none _ _)
 
-pub overflow_add-at : goal.overflow_add-at
-overflow_add-at c = omega arith
-
-pub overflow_mul-i : goal.overflow_mul-i
-overflow_mul-i c = omega arith
-
-pub overflow_add-at-in-loop-i : goal.overflow_add-at-in-loop-i
-overflow_add-at-in-loop-i c = omega arith
-
-pub frame_read-f-requires : goal.frame_read-f-requires
-frame_read-f-requires c = omega (arith, c.count_read-n.ensures)
-
-pub offset_bounds-fs-i : goal.offset_bounds-fs-i
-offset_bounds-fs-i c = omega arith
+pub frame_read-requires : goal.frame_read-requires
+frame_read-requires c = omega (arith, c.count_read-n.ensures)
 
 pub bounds-fs-i : goal.bounds-fs-i
 bounds-fs-i c = omega (arith, c.count_read-n.ensures)
-
-pub overflow_add-i : goal.overflow_add-i
-overflow_add-i c = omega arith
-
-pub loop-i-smaller : goal.loop-i-smaller
-loop-i-smaller c = omega arith
 
 pub loop-i-preserved : goal.loop-i-preserved
 loop-i-preserved c =
     let a = c.args in
     let l = c.loop-i in
     let f : ℕ → Frame = λ k. frame_laid (frame_bytes.read (part (a.at + 1 + k * 12) 12 a.s.now)) in
-    (search rules, search rules, ap (λ (w : Frame). set l.fs l.i w) c.frame_read-f.ensures ∙ tab_more f zero_frames l.fs zero_frame l.i l.invariant.2 (omega (arith, c.count_read-n.ensures)))
+    (search rules, ap (λ (w : Frame). set l.fs l.i w) c.frame_read.ensures ∙ tab_more f zero_frames l.fs zero_frame l.i l.invariant.1 (omega (arith, c.count_read-n.ensures)))
 
 pub returns : goal.returns
 returns c =
     let l = c.loop-i in
-    frames_made c.args.s.now c.args.at c.requires _ c.count_read-n.ensures l.fs l.i l.invariant.2 (omega arith)
+    frames_made c.args.s.now c.args.at c.requires _ c.count_read-n.ensures l.fs l.i l.invariant.1 (omega arith)

@@ -2,10 +2,10 @@
 use Rattle.rules.specs.Sync.{changed}
 use Rattle.volume.proofs.volume.all_changes.Goals as goal
 
-pub returns-in-Missing : goal.returns-in-Missing
+pub returns-in-None : goal.returns-in-None
 unfolding changed
-returns-in-Missing c = cc
+returns-in-None c = cc
 
-pub returns-in-At : goal.returns-in-At
+pub returns-in-Some : goal.returns-in-Some
 unfolding changed
-returns-in-At c = cc
+returns-in-Some c = cc

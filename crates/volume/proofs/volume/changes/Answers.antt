@@ -16,26 +16,26 @@ returns-then-not-counts_or_missing-2 c =
     (sym c.counts_or_missing.ensures ∙ c.if-not-counts_or_missing.false)
     (sym c.counts_or_missing-2.ensures ∙ c.if-not-counts_or_missing-2.true)
 
-pub returns-in-Missing : goal.returns-in-Missing
-returns-in-Missing c =
+pub returns-in-None : goal.returns-in-None
+returns-in-None c =
     past_zero
     _
     _
     _
     none
-    (ap maybe_lsn_says c.in-Missing.is)
+    (ap maybe_lsn_says c.in-None.is)
     (sym c.counts_or_missing.ensures ∙ c.if-not-counts_or_missing.false)
     (sym c.counts_or_missing-2.ensures ∙ c.if-not-counts_or_missing-2.false)
     c.all_changes.ensures
 
-pub returns-in-At : goal.returns-in-At
-returns-in-At c =
+pub returns-in-Some : goal.returns-in-Some
+returns-in-Some c =
     past_zero
     _
     _
     _
     _
-    (ap maybe_lsn_says c.in-At.is)
+    (ap maybe_lsn_says c.in-Some.is)
     (sym c.counts_or_missing.ensures ∙ c.if-not-counts_or_missing.false)
     (sym c.counts_or_missing-2.ensures ∙ c.if-not-counts_or_missing-2.false)
     c.changes_above.ensures

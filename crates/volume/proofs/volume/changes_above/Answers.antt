@@ -8,7 +8,7 @@ unfolding changed
 returns-in_default c = cc
 
 pub returns-then-b-h : goal.returns-then-b-h
-returns-then-b-h c = rw c.in-At.is (below _ _ c.if-b-h.true)
+returns-then-b-h c = rw c.in-Some.is (below _ _ c.if-b-h.true)
 
 pub returns : goal.returns
-returns c = rw c.in-At.is (not_below _ _ c.if-b-h.false)
+returns c = rw c.in-Some.is (not_below _ _ c.if-b-h.false)

@@ -1,5 +1,5 @@
 -- An LSN that is there counts where it is above 0. Assumes nothing.
 use Rattle.volume.proofs.volume.counts_or_missing.Goals as goal
 
-pub returns-in-At : goal.returns-in-At
-returns-in-At c = rw c.in-At.is
+pub returns-in-Some : goal.returns-in-Some
+returns-in-Some c = rw c.in-Some.is

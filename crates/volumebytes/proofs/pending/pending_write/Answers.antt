@@ -1,5 +1,5 @@
 -- Zeros where it is missing; else the flag, the LSNs and the hash, which are one store: the law `pending_stored`.
-use Rattle.std.proofs.Common.{◌≡◌, length, sym, ap, ◌∙◌, rules}
+use Rattle.std.proofs.Common.{◌≡◌, Option, length, sym, ap, ◌∙◌, rules}
 use Rattle.octets.specs.Bytes.{put}
 use Rattle.layout.specs.Codecs.{optional}
 use Rattle.layout.specs.Records.{pending_bytes}
@@ -13,12 +13,12 @@ unfolding pending_bytes
 returns-in_default c =
     let t = c.args in
     c.store_all.ensures
-    ∙ ap (λ (w : PendingCommit). put t.at ((optional pending_bytes).spell (pending_says w t.hash)) t.s.now) (sym c.in_default.is)
+    ∙ ap (λ (w : Option PendingCommit). put t.at ((optional pending_bytes).spell (pending_says w)) t.s.now) (sym c.in_default.is)
 
 pub returns : goal.returns
 returns c =
     -- a hash is 32 bytes
-    let long : length c.args.hash ≡ 32 = search rules in
+    let long : length c.in-Some.p.hash ≡ 32 = search rules in
     let t = c.args in
-    pending_stored t.at t.s.now _ c.store8.ensures _ _ _ (record { local = _; commit = _; hash = t.hash }) c.requires (long) c.store64.ensures c.store64-2.ensures c.store_hash.ensures
-    ∙ ap (λ (w : PendingCommit). put t.at ((optional pending_bytes).spell (pending_says w t.hash)) t.s.now) (sym c.in-At.is)
+    pending_stored t.at t.s.now _ c.store8.ensures _ _ _ (record { local = _; commit = _; hash = _ }) c.requires (long) c.store64.ensures c.store64-2.ensures c.store_hash.ensures
+    ∙ ap (λ (w : Option PendingCommit). put t.at ((optional pending_bytes).spell (pending_says w)) t.s.now) (sym c.in-Some.is)

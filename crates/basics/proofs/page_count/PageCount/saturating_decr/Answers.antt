@@ -3,10 +3,6 @@ use native.Mathlib.Omega.{arith}
 use Rattle.basics.specs.Numbers.{prev_count}
 use Rattle.basics.proofs.page_count.PageCount.saturating_decr.Goals as goal
 
-pub returns-then-n-eq0 : goal.returns-then-n-eq0
-unfolding prev_count
-returns-then-n-eq0 c = omega arith
-
 pub returns : goal.returns
 unfolding prev_count
 returns c = omega arith

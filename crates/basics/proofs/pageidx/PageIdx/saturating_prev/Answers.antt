@@ -1,13 +1,10 @@
--- The three ways out are the rule read at page 0, at the end and at any other page. Assumes nothing.
+-- The two ways out are the rule read at page 0 and at any other page. Assumes nothing.
 use native.Mathlib.Omega.{arith}
 use Rattle.basics.proofs.NumberLaws.{prev_page_zero, prev_page_lem}
 use Rattle.basics.proofs.pageidx.PageIdx.saturating_prev.Goals as goal
 
 pub returns-then-p-eq0 : goal.returns-then-p-eq0
 returns-then-p-eq0 c = prev_page_zero _ c.if-p-eq0.true
-
-pub returns-then-p-eq1 : goal.returns-then-p-eq1
-returns-then-p-eq1 c = prev_page_lem _ _ c.if-p-eq0.false (omega arith)
 
 pub returns : goal.returns
 returns c = prev_page_lem _ _ c.if-p-eq0.false (omega arith)

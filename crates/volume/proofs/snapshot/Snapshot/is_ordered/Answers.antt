@@ -1,12 +1,22 @@
 -- The test of each range is the rule's. Assumes nothing.
-use Rattle.std.proofs.Common.{◌≡◌, length, ◌∙◌, arith}
+use Rattle.std.proofs.Common.{◌≡◌, Bool, length, take, ◌∙◌, arith, rules, tests}
+use Rattle.std.proofs.lemmas.Iterator.{YieldsList-from_slice, YieldsList-from_take}
+use Rattle.std.proofs.lemmas.Iterator.Search.{all_from_yields_List}
 use Rattle.rules.specs.Arguments.{range_order, snapshot_order}
-use Rattle.volume.proofs.PathLaws.{said}
+use Rattle.volume.specs.declared.snapshot.LogRange.{LogRange}
+use Rattle.volume.specs.Snapshots.{range_says}
+use Rattle.volume.proofs.PathLaws.{all_listed, said}
 use Rattle.volume.proofs.SnapshotLaws.{places}
 use Rattle.volume.proofs.snapshot.Snapshot.is_ordered.Goals as goal
+
+abbrev passes : LogRange → Bool
+passes r = range_order (range_says r)
 
 pub returns : goal.returns
 unfolding snapshot_order
 returns c =
-    let l : length c.args.self.path ≡ 8 = places c.args.self _ c.well_formed.0 in
-    c.all_pass.ensures ∙ said range_order c.args.self.path c.args.self.len (omega arith)
+    let s = c.args.self in
+    let l : length s.path ≡ 8 = places s _ c.well_formed.0 in
+    all_from_yields_List passes _ _ c.all.result c.all.ensures.ran (YieldsList-from_take s.len (YieldsList-from_slice s.path (cc)) (cc)) (λ x b q k. search (rules, tests))
+    ∙ all_listed passes (take s.len s.path)
+    ∙ said range_order s.path s.len (omega arith)

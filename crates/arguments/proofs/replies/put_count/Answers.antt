@@ -1,8 +1,0 @@
--- Each case of the answer is told by the rule of its name. Assumes nothing.
-use Rattle.arguments.proofs.replies.put_count.Goals as goal
-
-pub returns-in-Refused : goal.returns-in-Refused
-returns-in-Refused c = rw c.in-Refused.is
-
-pub returns-in-Count : goal.returns-in-Count
-returns-in-Count c = rw c.in-Count.is

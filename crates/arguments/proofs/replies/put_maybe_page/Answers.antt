@@ -1,8 +1,0 @@
--- Each case of the answer is told by the rule of its name. Assumes nothing.
-use Rattle.arguments.proofs.replies.put_maybe_page.Goals as goal
-
-pub returns-in-At : goal.returns-in-At
-returns-in-At c = rw c.in-At.is
-
-pub returns-in-Nothing : goal.returns-in-Nothing
-returns-in-Nothing c = rw c.in-Nothing.is

@@ -1,7 +1,0 @@
--- The log decides, and then the LSN. Assumes nothing.
-use mathlib.Core.Path.{ap₂, ◌∙◌}
-use Rattle.basics.specs.Orders.{next}
-use Rattle.basics.proofs.keys.compare_log_refs.Goals as goal
-
-pub returns : goal.returns
-returns c = c.then_by.ensures ∙ ap₂ next c.compare.ensures c.compare_numbers.ensures

@@ -1,9 +1,0 @@
--- `framerun::pieces::comb` is safe and ends. Nothing has to hold from turn to turn; the measure is how far `i` is below `n`.
-use Rattle.std.proofs.Common.{◌-◌}
-use Rattle.framerun.proofs.pieces.comb.Given as goal
-
-abbrev pub invariant-loop-i : goal.invariant-loop-i
-invariant-loop-i l = Unit {0}
-
-abbrev pub decreases-loop-i : goal.decreases-loop-i
-decreases-loop-i l = l.n - l.i

@@ -1,9 +1,0 @@
--- `framerun::rounds::segments` is safe and ends. Nothing has to hold from turn to turn; the measure is how far `k` is below 120.
-use Rattle.std.proofs.Common.{◌-◌}
-use Rattle.framerun.proofs.rounds.segments.Given as goal
-
-abbrev pub invariant-loop-k : goal.invariant-loop-k
-invariant-loop-k l = Unit {0}
-
-abbrev pub decreases-loop-k : goal.decreases-loop-k
-decreases-loop-k l = 120 - l.k

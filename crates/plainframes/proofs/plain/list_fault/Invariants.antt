@@ -1,9 +1,0 @@
--- `plainframes::plain::list_fault` is safe and ends. Nothing has to hold from turn to turn, since the loop's test bounds the index; the measure is how far `i` is below `n`.
-use Rattle.std.proofs.Common.{◌-◌}
-use Rattle.plainframes.proofs.plain.list_fault.Given as goal
-
-abbrev pub invariant-loop-i : goal.invariant-loop-i
-invariant-loop-i l = Unit {0}
-
-abbrev pub decreases-loop-i : goal.decreases-loop-i
-decreases-loop-i l = l.n - l.i

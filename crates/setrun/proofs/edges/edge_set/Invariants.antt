@@ -1,9 +1,0 @@
--- `setrun::edges::edge_set` is safe and ends. Nothing has to hold from turn to turn, since the loop's test bounds the index; the measure is how far `i` is below 20.
-use Rattle.std.proofs.Common.{◌-◌}
-use Rattle.setrun.proofs.edges.edge_set.Given as goal
-
-abbrev pub invariant-loop-i : goal.invariant-loop-i
-invariant-loop-i l = Unit {0}
-
-abbrev pub decreases-loop-i : goal.decreases-loop-i
-decreases-loop-i l = 20 - l.i
