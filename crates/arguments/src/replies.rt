@@ -1,7 +1,7 @@
 // Answers by value as a reply and what is lent: written where there is an answer under 0, else as found.
 ghost use Rattle.std.specs.Prelude.{◌≡◌};
 ghost use Rattle.basics.specs.Answers.{done};
-ghost use Rattle.basics.specs.Refusals.{number_of};
+ghost use Rattle.basics.specs.Refusals.{code_of, number_of};
 ghost use Rattle.basics.specs.Says.{lsn_says, maybe_lsn_says, page_says, maybe_page_says};
 ghost use Rattle.volume.specs.Volumes.{changes_says};
 ghost use Rattle.pagecalls.specs.Says.{count_says, page_says as end_says, yes_says};
@@ -138,7 +138,17 @@ pub fn bit(b: bool) -> u32
 }
 
 // The number of a call that answers nothing else.
-pub fn numbered(code: u32) -> Reply
+pub fn numbered(answer: Result<(), Refusal>) -> Reply
+    ensures { result ≡ numbered_reply (code_of answer) }
+{
+    match answer {
+        Err(refusal) => refused(refusal),
+        Ok(()) => Reply { code: 0, found: 1 },
+    }
+}
+
+// The number of a call that answers nothing else, where it is still a number.
+pub fn by_number(code: u32) -> Reply
     ensures { result ≡ numbered_reply code }
 {
     if code == 0 {

@@ -14,7 +14,7 @@ ghost use Rattle.opencalls.specs.Opens.{wanted_by, asked, spares, open_in, out_a
 ghost use Rattle.arguments.specs.Replies.{numbered_reply};
 
 use arguments::Reply;
-use arguments::replies::numbered;
+use arguments::replies::by_number;
 use opencalls::Wanted;
 
 // The pushed commit written, given as its 722 bytes, and the volume's sync point the pending one: 20, 3 for another number of bytes, 1, 3, 4, 10, 14, 15, 19.
@@ -33,7 +33,7 @@ pub fn sigatuda_success(
     ensures index_after { index.new ≡ after entry_bytes (λ (r : Table Volume × Logs). r.1.index) index.old (lent (push_ok volumes.old commits.old checkpoints.old index.old) (success_in (volumes_in volumes.old) (logs_in commits.old checkpoints.old index.old) vid.now commit.now)) }
 {
     let id = *vid;
-    numbered(pushcalls::success(volumes, commits, checkpoints, index, id, commit))
+    by_number(pushcalls::success(volumes, commits, checkpoints, index, id, commit))
 }
 
 // What became of a push found out: 20, 4, 19, and 8 with the pending commit dropped.
@@ -51,7 +51,7 @@ pub fn sigatuda_recover(
     ensures index_after { index.new ≡ after entry_bytes (λ (r : ℕ × Table Volume × Logs). r.2.index) index.old (lent (push_ok volumes.old commits.old checkpoints.old index.old) (done (recover_rule (volumes_in volumes.old) (logs_in commits.old checkpoints.old index.old) vid.now))) }
 {
     let id = *vid;
-    numbered(pushcalls::recover(volumes, commits, checkpoints, index, id))
+    by_number(pushcalls::recover(volumes, commits, checkpoints, index, id))
 }
 
 // A volume opened, to `out` (117 bytes): the asked one that is stored, or a new one, with spares for what was not asked (flag 0): 20, 3 for another number of lent bytes, 6, 5, 19.
@@ -94,5 +94,5 @@ pub fn sigatuda_open(
         id: asked_remote,
         spare: other_remote,
     };
-    numbered(opencalls::open(volumes, commits, v, l, r, out))
+    by_number(opencalls::open(volumes, commits, v, l, r, out))
 }

@@ -26,7 +26,7 @@ pub fn sigatuda_save(
 {
     let volume = *vid;
     let segment = *sid;
-    replies::numbered(savecalls::save(
+    replies::by_number(savecalls::save(
         volumes,
         commits,
         checkpoints,

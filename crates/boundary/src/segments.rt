@@ -7,8 +7,9 @@ ghost use Rattle.resultlists.specs.Lists.{roomed, list_left};
 ghost use Rattle.segmentargs.specs.Segments.{segment_arg, range_arg, range_left, join_left};
 
 use arguments::Reply;
+use arguments::replies::refused;
 use basics::pageidx::PageIdx;
-use frames::{BytesAnswer, frame_for, frame_place};
+use frames::{frame_for, frame_place};
 use ranges::join;
 use segmentargs::lists::frame_list;
 use segmentargs::{put_range, range_arg, segment_arg};
@@ -36,15 +37,14 @@ pub fn sigatuda_frame_bytes<'a>(
 ) -> Reply
     ensures { (result, part.new.now) ≡ part_left lent.now part.old.now (part_bytes (bytes_rule (segment_arg segment.now) page (length lent.now))) }
 {
-    let place = frame_place(segment_arg(segment), PageIdx(page), lent.len());
-    match place {
-        BytesAnswer::Refused(code) => Reply { code, found: 0 },
-        BytesAnswer::At(start, end) => {
+    match frame_place(segment_arg(segment), PageIdx(page), lent.len()) {
+        Err(refusal) => refused(refusal),
+        Ok(Some((start, end))) => {
             let bytes = &lent[start..end];
             *part = bytes;
             Reply { code: 0, found: 1 }
         }
-        BytesAnswer::Nothing => Reply { code: 0, found: 0 },
+        Ok(None) => Reply { code: 0, found: 0 },
     }
 }
 

@@ -1,7 +1,6 @@
 // Sync, and prepare of a push.
 ghost use Rattle.std.specs.Prelude.{◌≡◌, ◌&&◌};
 ghost use Rattle.basics.specs.Answers.{code};
-ghost use Rattle.basics.specs.Refusals.{code_of};
 ghost use Rattle.rules.specs.Push.{prepare};
 ghost use Rattle.rules.specs.Sync.{sync};
 ghost use Rattle.layout.specs.Records.{volume_bytes};
@@ -11,24 +10,13 @@ ghost use Rattle.arguments.specs.Replies.{numbered_reply};
 
 use arguments::{Reply, replies};
 use basics::lsn::Lsn;
-use basics::refusal::Refusal;
-
-// The number that an answer earns: that of its refusal, and 0 where it is none.
-fn number_or_zero(answer: Result<(), Refusal>) -> u32
-    ensures { result ≡ code_of answer }
-{
-    match answer {
-        Ok(()) => 0,
-        Err(refusal) => refusal.number(),
-    }
-}
 
 // A volume's sync point moved to the remote's latest: 20, 4, 16, 8.
 pub fn sigatuda_sync(volumes: &mut [u8], commits: &[u8], vid: &[u8; 16]) -> Reply
     ensures value { result ≡ numbered_reply (code (lent (volumes_ok volumes.old && commits_ok commits.now) (sync (volumes_in volumes.old) (commits_in commits.now) vid.now))) }
     ensures volumes_after { volumes.new ≡ after volume_bytes (λ t. t) volumes.old (lent (volumes_ok volumes.old && commits_ok commits.now) (sync (volumes_in volumes.old) (commits_in commits.now) vid.now)) }
 {
-    replies::numbered(number_or_zero(synccalls::sync(volumes, commits, *vid)))
+    replies::numbered(synccalls::sync(volumes, commits, *vid))
 }
 
 // A volume's pending commit set, before its push: 20, 1, 4, 9, 11, 12, 13.
@@ -44,5 +32,5 @@ pub fn sigatuda_prepare(
     ensures volumes_after { volumes.new ≡ after volume_bytes (λ t. t) volumes.old (lent (volumes_ok volumes.old && commits_ok commits.now) (prepare (volumes_in volumes.old) (commits_in commits.now) vid.now (record { local = local; commit = commit; hash = hash.now }))) }
 {
     let prepared = synccalls::prepare(volumes, commits, *vid, Lsn(local), Lsn(commit), *hash);
-    replies::numbered(number_or_zero(prepared))
+    replies::numbered(prepared)
 }

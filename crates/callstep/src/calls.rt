@@ -154,6 +154,16 @@ pub fn find(commits: &[u8], index: &[u8], slots: &[u8], slot: u8, page: u32) -> 
     }
 }
 
+// The number that an answer earns: that of its refusal, and 0 where it is none.
+fn number_or_zero(answer: Result<(), Refusal>) -> u32
+    ensures { result ≡ code_of answer }
+{
+    match answer {
+        Ok(()) => 0,
+        Err(refusal) => refusal.number(),
+    }
+}
+
 // op=fetch
 pub fn fetch(
     commits: &mut [u8],
@@ -175,17 +185,7 @@ pub fn fetch(
     }
     let set = pages.set;
     let c = made::fetched_bytes(id_of(log), Lsn(lsn), PageCount(count), id_of(sid), set);
-    writecalls::write_commit(commits, checkpoints, index, &c)
-}
-
-// The number that an answer earns: that of its refusal, and 0 where it is none.
-fn number_or_zero(answer: Result<(), Refusal>) -> u32
-    ensures { result ≡ code_of answer }
-{
-    match answer {
-        Ok(()) => 0,
-        Err(refusal) => refusal.number(),
-    }
+    number_or_zero(writecalls::write_commit(commits, checkpoints, index, &c))
 }
 
 // op=pull

@@ -1,18 +1,19 @@
 -- What the types of the records tell, and that the promise of a range determines the answer. Assumes nothing.
-use Rattle.std.proofs.Common.{◌≡◌, List, length, sym, refl, ap, ◌∙◌}
-use mathlib.Core.Option.{Option, none, some}
+use Rattle.std.proofs.Common.{◌≡◌, true, List, length, sym, refl, ap, ◌∙◌, Option as Maybe, Some, None, Result, Ok, Err}
+use mathlib.Core.Option.{Option, some}
 use mir.Val.{Val}
 use denote.Laws.{Is}
 use denote.Struct.Declared.{row}
-use lib.ListN.{length-map}
-use Rattle.basics.specs.Answers.{Answer, refused, done}
+use Rattle.basics.specs.Answers.{Answer, done}
+use Rattle.basics.specs.Refusals.{number_of}
+use Rattle.basics.specs.declared.refusal.Refusal.{Refusal}
+use Rattle.basics.proofs.RefusalLaws.{one_refusal}
 use Rattle.pageset.proofs.FormLaws.{normal_fact}
 use Rattle.pageset.proofs.WalkLaws.{tidy_known}
 use Rattle.rules.specs.Frames.{Part}
 use Rattle.commit.specs.declared.SegmentIdx.{SegmentIdx}
 use Rattle.commit.specs.declared.SegmentRange.{SegmentRange}
-use Rattle.commit.specs.declared.RangeAnswer.{RangeAnswer}
-use Rattle.commit.specs.Says.{found_range, IsRange, Tells}
+use Rattle.commit.specs.Says.{range_says, IsRange, answer_says, answer_form, Tells}
 use Rattle.commit.specs.contracts.SegmentIdx.{the_type}
 
 -- a segment has sixteen places for frames
@@ -20,8 +21,8 @@ pub long_of : (s : SegmentIdx) (vs : List Val) → Is (row the_type) s vs → le
 long_of s vs g = g.1.1.1.1.1.0.1.0.1
 
 -- a range that is found
-pub tells_found : (f : Part) (x : SegmentRange) (r : RangeAnswer) → IsRange f x → r ≡ found_range x → Tells r (done (some f))
-tells_found f x r h e = rw e (refl, refl, h)
+pub tells_found : (f : Part) (x : SegmentRange) → IsRange f x → Tells (Ok (Some x)) (done (some f))
+tells_found f x h = record { says = ap (λ (p : Part). done (some p)) h.says; form = h.normal }
 
 -- ---- the promise determines the answer
 
@@ -31,11 +32,19 @@ one_range f x y h k =
     let s = tidy_known x.pages y.pages (normal_fact x.pages h.normal).tidy (normal_fact y.pages k.normal).tidy (ap (λ (p : Part). p.pages) e) in
     λ i. record { sid = ap (λ (p : Part). p.sid) e i; start = ap (λ (p : Part). p.start) e i; end = ap (λ (p : Part). p.end) e i; pages = s i }
 
-pub one_answer : (q : Answer (Option Part)) (x y : RangeAnswer) → Tells x q → Tells y q → x ≡ y
-one_answer (refused n) x y h k = h ∙ sym k
-one_answer (done none) x y h k = h ∙ sym k
-one_answer (done (some f)) x y h k =
-    let c = h.0 ∙ sym k.0 in
-    let g = h.1 ∙ sym k.1 in
-    let s = one_range f x.range y.range h.2 k.2 in
-    λ i. record { code = c i; found = g i; range = s i }
+-- two answers that say the same
+one_saying : (x y : Result (Maybe SegmentRange) Refusal) → answer_says x ≡ answer_says y → answer_form x ≡ true → answer_form y ≡ true → x ≡ y
+one_saying (Err n) (Err m) e h k = let p : number_of n ≡ number_of m = cc in ap (λ (r : Refusal). Err r) (one_refusal n m p)
+one_saying (Err n) (Ok None) e h k = cc
+one_saying (Err n) (Ok (Some b)) e h k = cc
+one_saying (Ok None) (Err m) e h k = cc
+one_saying (Ok None) (Ok None) e h k = refl
+one_saying (Ok None) (Ok (Some b)) e h k = cc
+one_saying (Ok (Some a)) (Err m) e h k = cc
+one_saying (Ok (Some a)) (Ok None) e h k = cc
+one_saying (Ok (Some a)) (Ok (Some b)) e h k =
+    let p : range_says a ≡ range_says b = cc in
+    ap (λ (r : SegmentRange). Ok (Some r)) (one_range (range_says b) a b (record { says = p; normal = h }) (record { says = refl; normal = k }))
+
+pub one_answer : (q : Answer (Option Part)) (x y : Result (Maybe SegmentRange) Refusal) → Tells x q → Tells y q → x ≡ y
+one_answer q x y h k = one_saying x y (h.says ∙ sym k.says) h.form k.form

@@ -1,8 +1,10 @@
 -- What each record of the code says, as a record of document 01's rules.
-use Rattle.std.specs.Prelude.{◌≡◌, ℕ, true, List, map, take, replicate}
+use Rattle.std.specs.Prelude.{◌≡◌, Bool, true, List, map, take, replicate, Option as Maybe, Some, None, Result, Ok, Err}
 use Rattle.std.proofs.Math.Option.{Option, none, some}
 use Rattle.basics.specs.Answers.{Answer, refused, done}
+use Rattle.basics.specs.Refusals.{number_of}
 use Rattle.basics.specs.declared.lsn.Lsn.{Lsn}
+use Rattle.basics.specs.declared.refusal.Refusal.{Refusal}
 use Rattle.pageset.specs.Sets.{shown, normal}
 use Rattle.pageset.specs.Says.{empty_set}
 use Rattle.rules.specs.Records as R
@@ -13,7 +15,6 @@ use Rattle.commit.specs.declared.Frame.{Frame}
 use Rattle.commit.specs.declared.SegmentIdx.{SegmentIdx}
 use Rattle.commit.specs.declared.Commit.{Commit}
 use Rattle.commit.specs.declared.SegmentRange.{SegmentRange}
-use Rattle.commit.specs.declared.RangeAnswer.{RangeAnswer}
 
 -- a frame
 abbrev pub frame_says : Frame → R.Frame
@@ -53,21 +54,28 @@ range_says r = record { sid = r.sid; start = r.start; end = r.end; pages = shown
 abbrev pub zero_range : SegmentRange
 zero_range = record { sid = replicate 16 0; start = 0; end = 0; pages = empty_set }
 
--- no range, under a number
-abbrev pub no_range : ℕ → RangeAnswer
-no_range n = record { code = n; found = Missing; range = zero_range }
-
--- a range, under 0
-abbrev pub found_range : SegmentRange → RangeAnswer
-found_range r = record { code = 0; found = Given; range = r }
-
 -- the range says that, and its set is in normal form
 pub record IsRange (f : Part) (r : SegmentRange) : Type 0 where
   pub says : range_says r ≡ f
   pub normal : normal r.pages ≡ true
 
--- the answer is the number, or no range under 0, or that range under 0
-abbrev pub Tells : RangeAnswer → Answer (Option Part) → Type 0
-Tells r (refused n) = r ≡ no_range n
-Tells r (done none) = r ≡ no_range 0
-Tells r (done (some f)) = (r.code ≡ 0) × (r.found ≡ Given) × IsRange f r.range
+-- a range or none
+abbrev pub maybe_range_says : Maybe SegmentRange → Option Part
+maybe_range_says None = none
+maybe_range_says (Some x) = some (range_says x)
+
+-- or the number
+abbrev pub answer_says : Result (Maybe SegmentRange) Refusal → Answer (Option Part)
+answer_says (Err r) = refused (number_of r)
+answer_says (Ok x) = done (maybe_range_says x)
+
+-- the set of its range is in normal form
+abbrev pub answer_form : Result (Maybe SegmentRange) Refusal → Bool
+answer_form (Err r) = true
+answer_form (Ok None) = true
+answer_form (Ok (Some x)) = normal x.pages
+
+-- the answer says that, and its set is in normal form
+pub record Tells (r : Result (Maybe SegmentRange) Refusal) (q : Answer (Option Part)) : Type 0 where
+  pub says : answer_says r ≡ q
+  pub form : answer_form r ≡ true

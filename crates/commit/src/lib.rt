@@ -3,7 +3,7 @@
 
 ghost use Rattle.std.specs.Prelude.{◌≡◌};
 ghost use Rattle.basics.specs.Hashes.{zero_hash};
-ghost use Rattle.commit.specs.Says.{zero_range, no_range, found_range};
+ghost use Rattle.commit.specs.Says.{zero_range};
 ghost use Rattle.commit.specs.Builders.{zero_frames, zero_lsns, zero_segment, new_segment, with_frames, new_commit, with_log, with_lsn, with_hash, with_segment, with_checkpoints};
 
 use basics::commit_hash;
@@ -58,14 +58,6 @@ pub struct SegmentRange {
     pub start: u64,
     pub end: u64,
     pub pages: PageSet,
-}
-
-// A range or none under 0; or the number of a refusal. Where there is no range, zeros stand there.
-#[derive(Clone, Copy)]
-pub struct RangeAnswer {
-    pub code: u32,
-    pub found: Presence,
-    pub range: SegmentRange,
 }
 
 // Sixteen frames, all zero.
@@ -129,29 +121,6 @@ impl SegmentRange {
             end: 0,
             pages,
         }
-    }
-}
-
-// No range, under a number.
-pub fn no_range(code: u32) -> RangeAnswer
-    ensures { result ≡ no_range code }
-{
-    let range = SegmentRange::zero();
-    RangeAnswer {
-        code,
-        found: Presence::Missing,
-        range,
-    }
-}
-
-// A range, under 0.
-pub fn found_range(range: SegmentRange) -> RangeAnswer
-    ensures { result ≡ found_range range }
-{
-    RangeAnswer {
-        code: 0,
-        found: Presence::Given,
-        range,
     }
 }
 

@@ -1,7 +1,6 @@
 // Segments and ranges that are not in form: every call refuses each, in the order of the numbers.
 use basics::pageidx::PageIdx;
 use commit::{Frame, SegmentIdx, SegmentRange};
-use frames::BytesAnswer;
 use pageset::{PageSet, Window, sets};
 use plainframes::asked;
 use plainset::tally::Tally;
@@ -28,33 +27,24 @@ fn made(pages: PageSet, len: usize, other: Option<(usize, Frame)>) -> SegmentIdx
     SegmentIdx::new([1u8; 16], pages).with_frames(len, frames)
 }
 
-// The number of a frame's place; 0 for an answer.
-fn number(a: BytesAnswer) -> u32 {
-    match a {
-        BytesAnswer::Refused(n) => n,
-        BytesAnswer::At(_, _) => 0,
-        BytesAnswer::Nothing => 0,
-    }
-}
-
 // The frame of a page and its bytes: a number.
 fn page(tally: &mut Tally, s: SegmentIdx, page: u32, code: u32) {
     let got = frames::frame_for(s, PageIdx(page));
     let place = frames::frame_place(s, PageIdx(page), 100);
     let part = frames::frame_bytes(s, PageIdx(page), b"lent bytes");
     asked::none(tally, got, code);
-    tally.same(number(place), code);
+    tally.same(asked::number(&place), code);
     tally.same(part.len(), 0);
 }
 
 // The frame list: a number, no frame, and zeros at both ends.
 fn list(tally: &mut Tally, s: SegmentIdx) {
     let got = frames::frame_list(s);
-    let held = got.frames;
-    tally.same(got.code, 3);
-    tally.same(got.len, 0);
-    asked::no_range(tally, held[0]);
-    asked::no_range(tally, held[15]);
+    tally.same(asked::number(&got), 3);
+    let list = asked::list_or_none(got);
+    tally.same(list.len, 0);
+    asked::no_range(tally, list.frames[0]);
+    asked::no_range(tally, list.frames[15]);
 }
 
 // Every call on a segment that is not in form: 3, and 1 for page 0 before that.

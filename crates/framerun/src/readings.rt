@@ -15,9 +15,15 @@ pub fn reading() -> Plain {
 // The frame of a page: its bytes and its pages.
 fn frame(tally: &mut Tally, page: u32, start: u64, end: u64, list: &[u32]) {
     let got = frames::frame_for(reading().segment(), PageIdx(page));
-    let r = got.range;
-    tally.same(got.code, 0);
-    asked::range(tally, r, plain::sid(), start, end, list);
+    tally.same(asked::number(&got), 0);
+    asked::range(
+        tally,
+        asked::range_or_zero(got),
+        plain::sid(),
+        start,
+        end,
+        list,
+    );
 }
 
 // A page without a frame.
@@ -29,9 +35,10 @@ fn no_frame(tally: &mut Tally, page: u32) {
 // The two frames of the list.
 fn listed(tally: &mut Tally) {
     let got = frames::frame_list(reading().segment());
-    let held = got.frames;
-    tally.same(got.code, 0);
-    tally.same(got.len, 2);
+    tally.same(asked::number(&got), 0);
+    let list = asked::list_or_none(got);
+    let held = list.frames;
+    tally.same(list.len, 2);
     asked::range(tally, held[0], plain::sid(), 0, 100, &[2u32, 3]);
     asked::range(tally, held[1], plain::sid(), 100, 150, &[5u32, 9]);
 }

@@ -1,8 +1,10 @@
 -- The list of frames. While a walk fills the places, ranges that say the parts that are left would complete those that are there (`told`), what is not
 -- filled is zero, the last pages that are left rise and the sizes that are left fit. The promise determines the answer. Assumes nothing.
-use Rattle.std.proofs.Common.{◌≡◌, ℕ, suc, ◌+◌, ◌-◌, ◌<◌, ◌≤◌, true, false, ◌&&◌, leb, List, [], ◌∷◌, ◌++◌, length, get_or, take, drop, set, replicate, sym, refl, ap, ◌∙◌, ap₂, append_assoc, append-nil, add-one, arith, length-set, take-append-drop, drop-drop, take-suc-set, drop-set-lt, leb-true}
+use Rattle.std.proofs.Common.{◌≡◌, ℕ, suc, ◌+◌, ◌-◌, ◌<◌, ◌≤◌, true, false, ◌&&◌, leb, List, [], ◌∷◌, ◌++◌, length, get_or, take, drop, set, replicate, sym, refl, ap, ◌∙◌, ap₂, append_assoc, append-nil, add-one, arith, length-set, take-append-drop, drop-drop, take-suc-set, drop-set-lt, leb-true, Result, Ok, Err}
 use lib.ListN.{length-replicate}
 use Rattle.basics.specs.Answers.{Answer, refused, done}
+use Rattle.basics.specs.declared.refusal.Refusal.{Refusal}
+use Rattle.basics.proofs.RefusalLaws.{one_refusal}
 use Rattle.basics.specs.Numbers.{last_lsn, last_page}
 use Rattle.pageset.specs.Sets.{shown}
 use Rattle.pageset.proofs.FormLaws.{and_fst, and_snd}
@@ -16,7 +18,7 @@ use Rattle.commit.specs.declared.SegmentRange.{SegmentRange}
 use Rattle.commit.specs.Builders.{zero_frame}
 use Rattle.commit.specs.Says.{frame_says, listed, segment_says, zero_range, IsRange}
 use Rattle.frames.specs.declared.FrameList.{FrameList}
-use Rattle.frames.specs.Parts.{AreRanges, Filled, no_list, Lists}
+use Rattle.frames.specs.Parts.{AreRanges, Filled, Lists}
 use Rattle.frames.specs.Rules.{frames_ok, list_rule}
 use Rattle.frames.proofs.FrameLaws.{long, front, ended}
 use Rattle.frames.proofs.PlaceLaws.{ok_sum, total_here, formed_bad, formed_ok}
@@ -120,8 +122,8 @@ parts_long s t = parts_length (segment_says s) 0 (start_page (shown s.pages)) (l
 
 -- ---- the rule, at each of the code's answers
 
-module _ (s : SegmentIdx) (r : FrameList) where
-  pub lists_bad : frames_ok s ≡ false → r ≡ no_list 3 → Lists r (list_rule s)
+module _ (s : SegmentIdx) (r : Result FrameList Refusal) where
+  pub lists_bad : frames_ok s ≡ false → Lists r (refused 3) → Lists r (list_rule s)
   unfolding list_rule frame_list
   lists_bad e h = rw (← formed_bad s (done (parts_of (segment_says s))) e) h
 
@@ -146,10 +148,13 @@ one_filling fs x y h k =
     ∙ ap₂ ◌++◌ (one_list fs _ _ h.parts k.parts) (h.rest ∙ sym k.rest)
     ∙ take-append-drop (length fs) y
 
-pub one_answer : (q : Answer (List Part)) (x y : FrameList) → Lists x q → Lists y q → x ≡ y
-one_answer (refused n) x y h k = h ∙ sym k
-one_answer (done fs) x y h k =
+pub one_answer : (q : Answer (List Part)) (x y : Result FrameList Refusal) → Lists x q → Lists y q → x ≡ y
+one_answer (refused n) (Err a) (Err b) h k = ap (λ (r : Refusal). Err r) (one_refusal a b (h ∙ sym k))
+one_answer (refused n) (Err a) (Ok l) h k = absurd k
+one_answer (refused n) (Ok l) y h k = absurd h
+one_answer (done fs) (Err a) y h k = absurd h
+one_answer (done fs) (Ok l) (Err b) h k = absurd k
+one_answer (done fs) (Ok l) (Ok m) h k =
     let c = h.0 ∙ sym k.0 in
-    let l = h.1 ∙ sym k.1 in
-    let s = one_filling fs x.frames y.frames h.2 k.2 in
-    λ i. record { code = c i; len = l i; frames = s i }
+    let s = one_filling fs l.frames m.frames h.1 k.1 in
+    λ i. Ok (record { len = c i; frames = s i })

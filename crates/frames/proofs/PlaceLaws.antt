@@ -1,6 +1,6 @@
 -- The frame of a page. A walk that passes the frames whose last page is below p finds the first that holds p, since it starts at most at p; and the set
 -- of a span is the rules' span, since a list of windows in order is known by its pages. Assumes nothing.
-use Rattle.std.proofs.Common.{◌≡◌, ℕ, ◌+◌, ◌<◌, ◌≤◌, Bool, true, false, cond, ◌&&◌, leb, List, [], ◌∷◌, length, get_or, drop, sym, refl, ap, ◌∙◌, ap₂, ⊎_elim, arith, lt-ltb, le-leb, leb-false, leb-true}
+use Rattle.std.proofs.Common.{◌≡◌, ℕ, ◌+◌, ◌<◌, ◌≤◌, Bool, true, false, cond, ◌&&◌, leb, List, [], ◌∷◌, length, get_or, drop, sym, refl, ap, ◌∙◌, ap₂, ⊎_elim, arith, lt-ltb, le-leb, leb-false, leb-true, Option as Maybe, Some, None}
 use mathlib.Core.Option.{Option, none}
 use borrow.Author.Tests.{lt-leb}
 use Rattle.basics.specs.Answers.{Answer, refused, done, ask, ◌>>◌}
@@ -23,11 +23,9 @@ use Rattle.rules.proofs.PageCounts.{first_page_lem, holds_span, span_normal}
 use Rattle.commit.proofs.SetLaws.{one_list}
 use Rattle.commit.specs.declared.Frame.{Frame}
 use Rattle.commit.specs.declared.SegmentIdx.{SegmentIdx}
-use Rattle.commit.specs.declared.RangeAnswer.{RangeAnswer}
-use Rattle.frames.specs.declared.Place.{Place}
-use Rattle.frames.specs.declared.Place.TheVariants.{At, Nothing}
+use Rattle.frames.specs.declared.Run.{Run}
 use Rattle.commit.specs.Builders.{zero_frame}
-use Rattle.commit.specs.Says.{listed, segment_says, no_range, Tells}
+use Rattle.commit.specs.Says.{listed, segment_says}
 use Rattle.frames.specs.Places.{place_says}
 use Rattle.frames.specs.Rules.{spelled, frames_ok, frame_rule, part_bytes, bytes_rule}
 use Rattle.frames.proofs.FrameLaws.{front, ended}
@@ -60,10 +58,10 @@ start_least s e p m = ⊎_elim (λ l. some_pages l) (λ l. clash (member s p) m 
 -- ---- the walk
 
 -- the first frame, from a byte and a page on, whose last page is not below p
-unfoldable pub run_at : ℕ → ℕ → ℕ → List R.Frame → Place
-run_at p byte page [] = Nothing
+unfoldable pub run_at : ℕ → ℕ → ℕ → List R.Frame → Maybe Run
+run_at p byte page [] = None
 run_at p byte page (f ∷ fs) =
-    cond (leb p f.last) (At (record { start = byte; end = byte + f.size; first = record { 0 = page }; last = record { 0 = f.last } })) (run_at p (byte + f.size) (f.last + 1) fs)
+    cond (leb p f.last) (Some (record { start = byte; end = byte + f.size; first = record { 0 = page }; last = record { 0 = f.last } })) (run_at p (byte + f.size) (f.last + 1) fs)
 
 -- of a page of the set it is the first whose set holds the page
 run_first : (s : SegmentIdx) (p : ℕ) → normal s.pages ≡ true → member s.pages p ≡ true → (byte page : ℕ) (fs : List R.Frame) → 0 < page → page ≤ p
@@ -87,7 +85,7 @@ no_part s p m = rw m
 
 -- a turn of it
 module _ (s : SegmentIdx) (t : s.len ≤ length s.frames) (i p byte page : ℕ) where
-  pub run_end : s.len ≤ i → run_at p byte page (drop i (listed s)) ≡ Nothing
+  pub run_end : s.len ≤ i → run_at p byte page (drop i (listed s)) ≡ None
   unfolding run_at
   run_end h = ap (run_at p byte page) (ended s t i h)
 
@@ -96,7 +94,7 @@ module _ (s : SegmentIdx) (t : s.len ≤ length s.frames) (i p byte page : ℕ) 
     here = get_or s.frames i zero_frame
 
     pub run_here : p ≤ (get_or s.frames i zero_frame).last.0
-        → run_at p byte page (drop i (listed s)) ≡ At (record { start = byte; end = byte + (get_or s.frames i zero_frame).size; first = record { 0 = page }; last = (get_or s.frames i zero_frame).last })
+        → run_at p byte page (drop i (listed s)) ≡ Some (record { start = byte; end = byte + (get_or s.frames i zero_frame).size; first = record { 0 = page }; last = (get_or s.frames i zero_frame).last })
     unfolding run_at
     run_here l = ap (run_at p byte page) (front s t i h) ∙ rw (le-leb p here.last.0 l)
 
@@ -139,27 +137,18 @@ module _ {A : Type 0} (s : SegmentIdx) (q : Answer A) where
 
 -- ---- the rule, at each of the code's answers
 
-module _ (s : SegmentIdx) (p : ℕ) (r : RangeAnswer) where
-  rule_zero : p ≡ 0 → refused 1 ≡ frame_rule s p
+module _ (s : SegmentIdx) (p : ℕ) where
+  pub rule_zero : p ≡ 0 → refused 1 ≡ frame_rule s p
   unfolding frame_rule
   rule_zero e = rw e
 
-  pub tells_zero : p ≡ 0 → r ≡ no_range 1 → Tells r (frame_rule s p)
-  tells_zero e h = rw (← rule_zero e) h
-
-  rule_bad : 0 < p → frames_ok s ≡ false → refused 3 ≡ frame_rule s p
+  pub rule_bad : 0 < p → frames_ok s ≡ false → refused 3 ≡ frame_rule s p
   unfolding frame_rule frame_of
   rule_bad l e = rw (lt-ltb 0 p l) (formed_bad s (done (part_of (segment_says s) p)) e)
 
-  pub tells_bad : 0 < p → frames_ok s ≡ false → r ≡ no_range 3 → Tells r (frame_rule s p)
-  tells_bad l e h = rw (← rule_bad l e) h
-
-  rule_place : 0 < p → frames_ok s ≡ true → done (part_of (segment_says s) p) ≡ frame_rule s p
+  pub rule_place : (o : Option Part) → 0 < p → frames_ok s ≡ true → o ≡ part_of (segment_says s) p → done o ≡ frame_rule s p
   unfolding frame_rule frame_of
-  rule_place l e = rw (lt-ltb 0 p l) (formed_ok s (done (part_of (segment_says s) p)) e)
-
-  pub tells_place : (o : Option Part) → 0 < p → frames_ok s ≡ true → o ≡ part_of (segment_says s) p → Tells r (done o) → Tells r (frame_rule s p)
-  tells_place o l e q h = rw (← rule_place l e, ← q) h
+  rule_place o l e q = rw (lt-ltb 0 p l, q) (formed_ok s (done (part_of (segment_says s) p)) e)
 
 -- ---- the frame's bytes
 

@@ -1,6 +1,8 @@
 -- A list of frames by value, and the parts that it says.
-use Rattle.std.specs.Prelude.{◌≡◌, ℕ, ◌-◌, List, [], ◌∷◌, length, take, drop, replicate}
+use Rattle.std.specs.Prelude.{◌≡◌, ◌-◌, List, [], ◌∷◌, length, take, drop, replicate, Result, Ok, Err}
 use Rattle.basics.specs.Answers.{Answer, refused, done}
+use Rattle.basics.specs.Refusals.{number_of}
+use Rattle.basics.specs.declared.refusal.Refusal.{Refusal}
 use Rattle.rules.specs.Frames.{Part}
 use Rattle.commit.specs.declared.SegmentRange.{SegmentRange}
 use Rattle.commit.specs.Says.{zero_range, IsRange}
@@ -18,11 +20,9 @@ pub record Filled (fs : List Part) (places : List SegmentRange) : Type 0 where
   pub parts : AreRanges fs (take (length fs) places)
   pub rest : drop (length fs) places ≡ replicate (16 - length fs) zero_range
 
--- no frame, under a number
-abbrev pub no_list : ℕ → FrameList
-no_list n = record { code = n; len = 0; frames = replicate 16 zero_range }
-
--- the answer is the number, or these parts under 0
-abbrev pub Lists : FrameList → Answer (List Part) → Type 0
-Lists r (refused n) = r ≡ no_list n
-Lists r (done fs) = (r.code ≡ 0) × (r.len ≡ length fs) × Filled fs r.frames
+-- the answer is the number, or these parts
+abbrev pub Lists : Result FrameList Refusal → Answer (List Part) → Type 0
+Lists (Err r) (refused n) = number_of r ≡ n
+Lists (Err r) (done fs) = ⊥
+Lists (Ok l) (refused n) = ⊥
+Lists (Ok l) (done fs) = (l.len ≡ length fs) × Filled fs l.frames

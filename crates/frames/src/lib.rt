@@ -12,7 +12,8 @@ ghost use Rattle.frames.specs.Parts.{Filled, Lists};
 ghost use Rattle.frames.specs.Rules.{no_frames, frames_ok, list_rule, frame_rule, bytes_rule, part_bytes, cut_bytes};
 
 use basics::pageidx::PageIdx;
-use commit::{RangeAnswer, SegmentIdx, SegmentRange, found_range, no_range};
+use basics::refusal::Refusal;
+use commit::{SegmentIdx, SegmentRange};
 use pageset::{PageSet, form, sets};
 
 // Where a frame lies: from start up to but not at end, and from its first page to its last.
@@ -24,25 +25,9 @@ pub struct Run {
     pub last: PageIdx,
 }
 
-// Where a page's frame lies, or none.
-#[derive(Clone, Copy)]
-pub enum Place {
-    At(Run),
-    Nothing,
-}
-
-// Where the bytes of a frame lie in a lent segment, or none; or the number of a refusal.
-#[derive(Clone, Copy)]
-pub enum BytesAnswer {
-    Refused(u32),
-    At(usize, usize),
-    Nothing,
-}
-
-// The frames of a segment: the first `len` count, and those past them are zero. Of a refusal its number, and no frame.
+// The frames of a segment: the first `len` count, and those past them are zero.
 #[derive(Clone, Copy)]
 pub struct FrameList {
-    pub code: u32,
     pub len: usize,
     pub frames: [SegmentRange; 16],
 }
@@ -120,14 +105,14 @@ pub fn frames_ok(s: SegmentIdx) -> bool
 }
 
 // Where the frame of a page lies: one walk that adds the sizes and carries the page before the next frame.
-fn locate(s: SegmentIdx, page: PageIdx) -> Place
+fn locate(s: SegmentIdx, page: PageIdx) -> Option<Run>
     requires { frames_ok s ≡ true }
     ensures says { place_says s result ≡ part_of (segment_says s) page.0 }
     ensures placed { Placed result }
 {
     let pages = s.pages;
     if !sets::contains(pages, page) {
-        return Place::Nothing;
+        return None;
     }
     let n = s.len;
     let fs = s.frames;
@@ -140,7 +125,7 @@ fn locate(s: SegmentIdx, page: PageIdx) -> Place
         if p <= f.last.0 {
             let first = PageIdx(below + 1);
             let last = f.last;
-            return Place::At(Run {
+            return Some(Run {
                 start,
                 end,
                 first,
@@ -150,7 +135,7 @@ fn locate(s: SegmentIdx, page: PageIdx) -> Place
         below = f.last.0;
         start = end;
     }
-    Place::Nothing
+    None
 }
 
 // The frame that lies there: its bytes, and the pages of the segment's set from its first page to its last.
@@ -173,19 +158,18 @@ fn frame_at(s: SegmentIdx, run: Run) -> SegmentRange
 }
 
 // The frame of a page: 1 for page 0, 3 for a segment that is not in form, then the frame or none.
-pub fn frame_for(s: SegmentIdx, page: PageIdx) -> RangeAnswer
+pub fn frame_for(s: SegmentIdx, page: PageIdx) -> Result<Option<SegmentRange>, Refusal>
     ensures { Tells result (frame_rule s page.0) }
 {
     if page.0 == 0 {
-        return no_range(1);
+        return Err(Refusal::Zero);
     }
     if !frames_ok(s) {
-        return no_range(3);
+        return Err(Refusal::Form);
     }
-    let place = locate(s, page);
-    match place {
-        Place::At(run) => found_range(frame_at(s, run)),
-        Place::Nothing => no_range(0),
+    match locate(s, page) {
+        Some(run) => Ok(Some(frame_at(s, run))),
+        None => Ok(None),
     }
 }
 
@@ -219,27 +203,18 @@ fn all_frames(s: SegmentIdx) -> [SegmentRange; 16]
 }
 
 // The frames of a segment in their order, also those that hold no page or no byte: 3 for a segment that is not in form.
-pub fn frame_list(s: SegmentIdx) -> FrameList
+pub fn frame_list(s: SegmentIdx) -> Result<FrameList, Refusal>
     ensures { Lists result (list_rule s) }
 {
     if !frames_ok(s) {
-        let none = SegmentRange::zero();
-        return FrameList {
-            code: 3,
-            len: 0,
-            frames: [none; 16],
-        };
+        return Err(Refusal::Form);
     }
     let frames = all_frames(s);
-    FrameList {
-        code: 0,
-        len: s.len,
-        frames,
-    }
+    Ok(FrameList { len: s.len, frames })
 }
 
 // Where the bytes of a frame lie: 23 where it reaches past the lent bytes.
-fn in_lent(s: SegmentIdx, run: Run, lent: usize) -> BytesAnswer
+fn in_lent(s: SegmentIdx, run: Run, lent: usize) -> Result<Option<(usize, usize)>, Refusal>
     requires { run.start ≤ run.end }
     ensures says { bytes_says result ≡ part_bytes (within_lent lent (some (run_part s run))) }
     ensures within { Within result lent }
@@ -247,26 +222,29 @@ fn in_lent(s: SegmentIdx, run: Run, lent: usize) -> BytesAnswer
     let start = run.start as usize;
     let end = run.end as usize;
     if lent < end {
-        return BytesAnswer::Refused(23);
+        return Err(Refusal::PastSegment);
     }
-    BytesAnswer::At(start, end)
+    Ok(Some((start, end)))
 }
 
 // Where the bytes of a page's frame lie in a lent segment: 1 for page 0, 3 for a segment that is not in form, then none or 23 or the place.
-pub fn frame_place(s: SegmentIdx, page: PageIdx, lent: usize) -> BytesAnswer
+pub fn frame_place(
+    s: SegmentIdx,
+    page: PageIdx,
+    lent: usize,
+) -> Result<Option<(usize, usize)>, Refusal>
     ensures says { bytes_says result ≡ part_bytes (bytes_rule s page.0 lent) }
     ensures within { Within result lent }
 {
     if page.0 == 0 {
-        return BytesAnswer::Refused(1);
+        return Err(Refusal::Zero);
     }
     if !frames_ok(s) {
-        return BytesAnswer::Refused(3);
+        return Err(Refusal::Form);
     }
-    let place = locate(s, page);
-    match place {
-        Place::At(run) => in_lent(s, run, lent),
-        Place::Nothing => BytesAnswer::Nothing,
+    match locate(s, page) {
+        Some(run) => in_lent(s, run, lent),
+        None => Ok(None),
     }
 }
 
@@ -274,10 +252,9 @@ pub fn frame_place(s: SegmentIdx, page: PageIdx, lent: usize) -> BytesAnswer
 pub fn frame_bytes<'a>(s: SegmentIdx, page: PageIdx, bytes: &'a [u8]) -> &'a [u8]
     ensures { result.now ≡ cut_bytes (part_bytes (bytes_rule s page.0 (length bytes.now))) bytes.now }
 {
-    let place = frame_place(s, page, bytes.len());
-    match place {
-        BytesAnswer::Refused(_) => &bytes[0..0],
-        BytesAnswer::At(start, end) => &bytes[start..end],
-        BytesAnswer::Nothing => &bytes[0..0],
+    match frame_place(s, page, bytes.len()) {
+        Ok(Some((start, end))) => &bytes[start..end],
+        Ok(None) => &bytes[0..0],
+        Err(_) => &bytes[0..0],
     }
 }

@@ -3,16 +3,44 @@ use crate::plain;
 use crate::plain::Plain;
 use basics::id::SegmentId;
 use basics::pageidx::PageIdx;
-use commit::{Presence, RangeAnswer, SegmentRange};
-use frames::BytesAnswer;
+use basics::refusal::Refusal;
+use commit::SegmentRange;
+use frames::FrameList;
 use plainset::held;
 use plainset::tally::Tally;
 
-// Whether what stands beside it counts.
-pub fn given(p: Presence) -> bool {
-    match p {
-        Presence::Missing => false,
-        Presence::Given => true,
+// The number of an answer; 0 where it is not refused.
+pub fn number<A>(a: &Result<A, Refusal>) -> u32 {
+    match a {
+        Ok(_) => 0,
+        Err(refusal) => refusal.number(),
+    }
+}
+
+// Whether an answer holds a range.
+pub fn is_found(a: Result<Option<SegmentRange>, Refusal>) -> bool {
+    match a {
+        Ok(Some(_)) => true,
+        _ => false,
+    }
+}
+
+// The range of an answer; one of zeros where it holds none.
+pub fn range_or_zero(a: Result<Option<SegmentRange>, Refusal>) -> SegmentRange {
+    match a {
+        Ok(Some(r)) => r,
+        _ => SegmentRange::zero(),
+    }
+}
+
+// The frame list of an answer; no frame where it is refused.
+pub fn list_or_none(a: Result<FrameList, Refusal>) -> FrameList {
+    match a {
+        Ok(list) => list,
+        Err(_) => FrameList {
+            len: 0,
+            frames: [SegmentRange::zero(); 16],
+        },
     }
 }
 
@@ -40,12 +68,10 @@ pub fn no_range(tally: &mut Tally, r: SegmentRange) {
 }
 
 // An answer that holds no range, under a number.
-pub fn none(tally: &mut Tally, a: RangeAnswer, code: u32) {
-    let found = a.found;
-    let r = a.range;
-    tally.same(a.code, code);
-    tally.same(given(found), false);
-    no_range(tally, r);
+pub fn none(tally: &mut Tally, a: Result<Option<SegmentRange>, Refusal>, code: u32) {
+    tally.same(number(&a), code);
+    tally.same(is_found(a), false);
+    no_range(tally, range_or_zero(a));
 }
 
 // The number of bytes of a range that does not end before it starts.
@@ -77,12 +103,12 @@ fn places(tally: &mut Tally, p: &Plain, frames: &[SegmentRange]) {
 // The frame list of a segment, under its number; of a refusal no frame.
 pub fn list(tally: &mut Tally, p: &Plain) {
     let got = frames::frame_list(p.segment());
-    let held = got.frames;
     let code = p.fault();
-    tally.same(got.code, code);
+    tally.same(number(&got), code);
+    let list = list_or_none(got);
     let want = if code != 0 { p.counted(0) } else { *p };
-    tally.same(got.len, want.len);
-    places(tally, &want, &held);
+    tally.same(list.len, want.len);
+    places(tally, &want, &list.frames);
 }
 
 // Whether a segment is in form.
@@ -108,22 +134,20 @@ pub fn page(tally: &mut Tally, p: &Plain, page: u32) {
     let Some(i) = p.frame_of(page) else {
         return none(tally, got, 0);
     };
-    let found = got.found;
-    let r = got.range;
-    tally.same(got.code, 0);
-    tally.same(given(found), true);
-    frame(tally, p, r, i);
+    tally.same(number(&got), 0);
+    tally.same(is_found(got), true);
+    frame(tally, p, range_or_zero(got), i);
 }
 
 // Where a page's frame lies in a lent segment: from start up to but not at end, or nowhere. A refusal is an error that holds its number.
 type Place = Result<Option<(u64, u64)>, u32>;
 
 // The place that a call tells.
-fn told(a: BytesAnswer) -> Place {
+fn told(a: Result<Option<(usize, usize)>, Refusal>) -> Place {
     match a {
-        BytesAnswer::Refused(n) => Err(n),
-        BytesAnswer::At(from, to) => Ok(Some((from as u64, to as u64))),
-        BytesAnswer::Nothing => Ok(None),
+        Err(refusal) => Err(refusal.number()),
+        Ok(Some((from, to))) => Ok(Some((from as u64, to as u64))),
+        Ok(None) => Ok(None),
     }
 }
 

@@ -1,7 +1,8 @@
 // Joining two ranges, each answer against lists of their pages.
 use crate::asked;
 use basics::id::SegmentId;
-use commit::{RangeAnswer, SegmentRange};
+use basics::refusal::Refusal;
+use commit::SegmentRange;
 use plainset::held::Held;
 use plainset::tally::Tally;
 use plainset::{held, naive};
@@ -35,21 +36,30 @@ impl Piece {
 }
 
 // Two pieces that touch, the first ending where the second starts: their pages together, or 22 where these lie in over 32 blocks of 64.
-fn touched(tally: &mut Tally, a: RangeAnswer, first: &Piece, second: &Piece) {
+fn touched(
+    tally: &mut Tally,
+    a: Result<Option<SegmentRange>, Refusal>,
+    first: &Piece,
+    second: &Piece,
+) {
     let list = naive::both(first.held.pages, &second.held.pages);
     let code = held::room_code(&list);
     if code != 0 {
         return asked::none(tally, a, code);
     }
-    let found = a.found;
-    let r = a.range;
-    tally.same(a.code, 0);
-    tally.same(asked::given(found), true);
+    let r = asked::range_or_zero(a);
+    tally.same(asked::number(&a), 0);
+    tally.same(asked::is_found(a), true);
     asked::range(tally, r, first.sid, first.start, second.end, &list);
 }
 
 // An answer to two pieces of one segment.
-fn of_one(tally: &mut Tally, a: RangeAnswer, left: &Piece, right: &Piece) {
+fn of_one(
+    tally: &mut Tally,
+    a: Result<Option<SegmentRange>, Refusal>,
+    left: &Piece,
+    right: &Piece,
+) {
     if left.end == right.start {
         return touched(tally, a, left, right);
     }

@@ -3,6 +3,7 @@
 
 ghost use Rattle.std.specs.Prelude.{◌≡◌};
 ghost use Rattle.basics.specs.Answers.{code};
+ghost use Rattle.basics.specs.Refusals.{code_of};
 ghost use Rattle.pagecalls.specs.Says.{yes_says};
 ghost use Rattle.rules.specs.Reads.{page_present, page_mark, page_remove, pages_remove};
 ghost use Rattle.layout.specs.Records.{present_bytes};
@@ -32,55 +33,60 @@ pub fn page_present(presence: &[u8], sid: SegmentId, page: PageIdx) -> Result<bo
 }
 
 // A page of a segment marked present; where it is already, nothing changes: 20, 1, 19.
-pub fn page_mark(presence: &mut [u8], sid: SegmentId, page: PageIdx) -> u32
-    ensures value { result ≡ code (lent (presence_ok presence.old) (page_mark (presence_in presence.old) sid page.0)) }
+pub fn page_mark(presence: &mut [u8], sid: SegmentId, page: PageIdx) -> Result<(), Refusal>
+    ensures value { code_of result ≡ code (lent (presence_ok presence.old) (page_mark (presence_in presence.old) sid page.0)) }
     ensures presence_after { presence.new ≡ after present_bytes (λ t. t) presence.old (lent (presence_ok presence.old) (page_mark (presence_in presence.old) sid page.0)) }
 {
     if !presence_formed(presence) {
-        return 20;
+        return Err(Refusal::TableForm);
     }
     if page.0 == 0 {
-        return 1;
+        return Err(Refusal::Zero);
     }
     if !room_for_page(presence, sid, page) {
-        return 19;
+        return Err(Refusal::NoRoom);
     }
     put_page(presence, sid, page);
-    0
+    Ok(())
 }
 
 // A page of a segment is present no more; where it is not, nothing changes: 20, 1.
-pub fn page_remove(presence: &mut [u8], sid: SegmentId, page: PageIdx) -> u32
-    ensures value { result ≡ code (lent (presence_ok presence.old) (page_remove (presence_in presence.old) sid page.0)) }
+pub fn page_remove(presence: &mut [u8], sid: SegmentId, page: PageIdx) -> Result<(), Refusal>
+    ensures value { code_of result ≡ code (lent (presence_ok presence.old) (page_remove (presence_in presence.old) sid page.0)) }
     ensures presence_after { presence.new ≡ after present_bytes (λ t. t) presence.old (lent (presence_ok presence.old) (page_remove (presence_in presence.old) sid page.0)) }
 {
     if !presence_formed(presence) {
-        return 20;
+        return Err(Refusal::TableForm);
     }
     if page.0 == 0 {
-        return 1;
+        return Err(Refusal::Zero);
     }
     remove_pages(presence, sid, page, page);
-    0
+    Ok(())
 }
 
 // The pages of a segment from first to last are present no more; where none is, nothing changes: 20, 1, 2.
-pub fn pages_remove(presence: &mut [u8], sid: SegmentId, first: PageIdx, last: PageIdx) -> u32
-    ensures value { result ≡ code (lent (presence_ok presence.old) (pages_remove (presence_in presence.old) sid first.0 last.0)) }
+pub fn pages_remove(
+    presence: &mut [u8],
+    sid: SegmentId,
+    first: PageIdx,
+    last: PageIdx,
+) -> Result<(), Refusal>
+    ensures value { code_of result ≡ code (lent (presence_ok presence.old) (pages_remove (presence_in presence.old) sid first.0 last.0)) }
     ensures presence_after { presence.new ≡ after present_bytes (λ t. t) presence.old (lent (presence_ok presence.old) (pages_remove (presence_in presence.old) sid first.0 last.0)) }
 {
     if !presence_formed(presence) {
-        return 20;
+        return Err(Refusal::TableForm);
     }
     if first.0 == 0 {
-        return 1;
+        return Err(Refusal::Zero);
     }
     if last.0 == 0 {
-        return 1;
+        return Err(Refusal::Zero);
     }
     if last.0 < first.0 {
-        return 2;
+        return Err(Refusal::Reversed);
     }
     remove_pages(presence, sid, first, last);
-    0
+    Ok(())
 }

@@ -1,11 +1,13 @@
 -- Joining two ranges. The windows of a union are in order, so the set that the code makes is the rules' union; and where no set of 32 windows has its
 -- pages, the union has over 32 windows, since one of at most 32 could be held by value. Assumes nothing.
-use Rattle.std.proofs.Common.{◌≡◌, ℕ, ◌+◌, ◌-◌, ◌^◌, ◌<◌, ◌≤◌, true, false, ◌&&◌, ◌||◌, leb, List, [], ◌∷◌, ◌++◌, length, replicate, sym, refl, ap, ◌∙◌, ap₂, inl, inr, ⊎_elim, arith, length-append, take_at, drop_at, eq-eqb, ne_eqb, le-leb}
+use Rattle.std.proofs.Common.{◌≡◌, ℕ, ◌+◌, ◌-◌, ◌^◌, ◌<◌, ◌≤◌, true, false, ◌&&◌, ◌||◌, leb, List, [], ◌∷◌, ◌++◌, length, replicate, sym, refl, ap, ◌∙◌, ap₂, inl, inr, ⊎_elim, arith, length-append, take_at, drop_at, eq-eqb, ne_eqb, le-leb, Option as Maybe, Some, None, Result, Ok, Err}
 use Prim.Native.Nat.{compare}
 use mathlib.Core.Option.{Option, none, some}
 use borrow.Author.Tests.{lt-leb}
 use lib.ListN.{length-replicate}
 use Rattle.basics.specs.Answers.{refused, done}
+use Rattle.basics.specs.declared.refusal.Refusal.{Refusal}
+use Rattle.basics.specs.declared.refusal.Refusal.TheVariants as Refusal
 use Rattle.pageset.specs.declared.Window.{Window}
 use Rattle.pageset.specs.declared.PageSet.{PageSet}
 use Rattle.pageset.specs.declared.SetAnswer.{SetAnswer}
@@ -28,8 +30,7 @@ use Rattle.rules.specs.Frames.{Part, touching, joined_part, join}
 use Rattle.rules.proofs.TableLaws.{eq_of}
 use Rattle.pageset.proofs.FormLaws.{and_both, and_left, and_right}
 use Rattle.commit.specs.declared.SegmentRange.{SegmentRange}
-use Rattle.commit.specs.declared.RangeAnswer.{RangeAnswer}
-use Rattle.commit.specs.Says.{range_says, no_range, found_range, Tells}
+use Rattle.commit.specs.Says.{range_says, Tells}
 use Rattle.ranges.specs.Rules.{both_of, join_rule}
 use Rattle.commit.proofs.SetLaws.{one_list}
 use Rattle.commit.proofs.RecordLaws.{tells_found}
@@ -100,32 +101,32 @@ module _ (a b : PageSet) (ea : normal a ≡ true) (eb : normal b ≡ true) where
 -- ---- two ranges as one
 
 module _ (a b : SegmentRange) (ea : normal a.pages ≡ true) (eb : normal b.pages ≡ true) (u : SetAnswer) where
-  pub joined_over : GivesOr22 u (done (λ p. member a.pages p || member b.pages p)) → (u.code ≡ 0 → ⊥) → (r : RangeAnswer) → r ≡ no_range 22 → Tells r (joined_part (some (both_of a b)))
-  joined_over (inl h) n r e = absurd (n h.0)
-  joined_over (inr h) n r e = rw (lt-leb (length (union (shown a.pages) (shown b.pages))) 32 (union_many a.pages b.pages ea eb h.1)) e
+  pub joined_over : GivesOr22 u (done (λ p. member a.pages p || member b.pages p)) → (u.code ≡ 0 → ⊥) → Tells (Err Refusal.TooWide) (joined_part (some (both_of a b)))
+  joined_over (inl h) n = absurd (n h.0)
+  joined_over (inr h) n = rw (lt-leb (length (union (shown a.pages) (shown b.pages))) 32 (union_many a.pages b.pages ea eb h.1)) (record { says = refl; form = refl })
 
   pub joined_set : GivesOr22 u (done (λ p. member a.pages p || member b.pages p)) → u.code ≡ 0
-      → (r : RangeAnswer) → r ≡ found_range (record { sid = a.sid; start = a.start; end = b.end; pages = u.set }) → Tells r (joined_part (some (both_of a b)))
-  joined_set (inl h) e r g =
+      → Tells (Ok (Some (record { sid = a.sid; start = a.start; end = b.end; pages = u.set }))) (joined_part (some (both_of a b)))
+  joined_set (inl h) e =
       rw (le-leb (length (union (shown a.pages) (shown b.pages))) 32 (union_few a.pages b.pages ea eb u.set h.1))
-      (tells_found _ _ r (record {
+      (tells_found _ _ (record {
         says = ap (λ (ws : Pages). record { sid = a.sid; start = a.start; end = b.end; pages = ws }) (union_is a.pages b.pages ea eb u.set h.1);
         normal = h.1.normal;
-      }) g)
-  joined_set (inr h) e r g = absurd (let z : u.code ≡ 22 = ap (λ (x : SetAnswer). x.code) h.0 in omega arith)
+      }))
+  joined_set (inr h) e = absurd (let z : u.code ≡ 22 = ap (λ (x : SetAnswer). x.code) h.0 in omega arith)
 
 -- ---- the rule, at each of the code's answers
 
-module _ (a b : SegmentRange) (r : RangeAnswer) where
+module _ (a b : SegmentRange) where
   rule_two : (leb a.start a.end && leb b.start b.end) ≡ false → refused 2 ≡ join_rule a b
   unfolding join_rule
   rule_two e = rw e
 
-  pub tells_left : a.end < a.start → r ≡ no_range 2 → Tells r (join_rule a b)
-  tells_left l h = rw (← rule_two (and_left _ (leb b.start b.end) (lt-leb a.start a.end l))) h
+  pub tells_left : a.end < a.start → Tells (Err Refusal.Reversed) (join_rule a b)
+  tells_left l = record { says = rule_two (and_left _ (leb b.start b.end) (lt-leb a.start a.end l)); form = refl }
 
-  pub tells_right : b.end < b.start → r ≡ no_range 2 → Tells r (join_rule a b)
-  tells_right l h = rw (← rule_two (and_right (leb a.start a.end) _ (lt-leb b.start b.end l))) h
+  pub tells_right : b.end < b.start → Tells (Err Refusal.Reversed) (join_rule a b)
+  tells_right l = record { says = rule_two (and_right (leb a.start a.end) _ (lt-leb b.start b.end l)); form = refl }
 
   module _ (la : a.start ≤ a.end) (lb : b.start ≤ b.end) where
     order_test : (leb a.start a.end && leb b.start b.end) ≡ true
@@ -135,36 +136,39 @@ module _ (a b : SegmentRange) (r : RangeAnswer) where
     unfolding join_rule
     rule_three e = rw (order_test, e)
 
-    pub tells_first : normal a.pages ≡ false → r ≡ no_range 3 → Tells r (join_rule a b)
-    tells_first e h = rw (← rule_three (and_left _ (normal b.pages) e)) h
+    pub tells_first : normal a.pages ≡ false → Tells (Err Refusal.Form) (join_rule a b)
+    tells_first e = record { says = rule_three (and_left _ (normal b.pages) e); form = refl }
 
-    pub tells_second : normal b.pages ≡ false → r ≡ no_range 3 → Tells r (join_rule a b)
-    tells_second e h = rw (← rule_three (and_right (normal a.pages) _ e)) h
+    pub tells_second : normal b.pages ≡ false → Tells (Err Refusal.Form) (join_rule a b)
+    tells_second e = record { says = rule_three (and_right (normal a.pages) _ e); form = refl }
 
     module _ (ea : normal a.pages ≡ true) (eb : normal b.pages ≡ true) where
       rule_touch : joined_part (touching (range_says a) (range_says b)) ≡ join_rule a b
       unfolding join_rule join
       rule_touch = rw (order_test, and_both _ _ ea eb, and_both _ _ (shown_form a.pages ea) (shown_form b.pages eb))
 
-      tells : (o : Option Part) → o ≡ touching (range_says a) (range_says b) → Tells r (joined_part o) → Tells r (join_rule a b)
-      tells o q h = rw (← rule_touch, ← q) h
+      tells : (r : Result (Maybe SegmentRange) Refusal) (o : Option Part) → o ≡ touching (range_says a) (range_says b) → Tells r (joined_part o) → Tells r (join_rule a b)
+      tells r o q h = rw (← rule_touch, ← q) h
 
-      pub tells_other : is_equal (lex a.sid b.sid) ≡ false → r ≡ no_range 0 → Tells r (join_rule a b)
-      tells_other e h = tells none (let k = sym (id_is a.sid b.sid) ∙ e in rw k) h
+      tells_none : none ≡ touching (range_says a) (range_says b) → Tells (Ok None) (join_rule a b)
+      tells_none q = tells (Ok None) none q (record { says = refl; form = refl })
+
+      pub tells_other : is_equal (lex a.sid b.sid) ≡ false → Tells (Ok None) (join_rule a b)
+      tells_other e = tells_none (let k = sym (id_is a.sid b.sid) ∙ e in rw k)
 
       module _ (e : is_equal (lex a.sid b.sid) ≡ true) where
         same_test : same_id a.sid b.sid ≡ true
         same_test = sym (id_is a.sid b.sid) ∙ e
 
-        pub tells_after : a.end ≡ b.start → Tells r (joined_part (some (both_of a b))) → Tells r (join_rule a b)
-        tells_after t h = tells (some (both_of a b)) (rw (same_test, eq-eqb a.end b.start t)) h
+        pub tells_after : (r : Result (Maybe SegmentRange) Refusal) → a.end ≡ b.start → Tells r (joined_part (some (both_of a b))) → Tells r (join_rule a b)
+        tells_after r t h = tells r (some (both_of a b)) (rw (same_test, eq-eqb a.end b.start t)) h
 
-        pub tells_before : (a.end ≡ b.start → ⊥) → b.end ≡ a.start → Tells r (joined_part (some (both_of b a))) → Tells r (join_rule a b)
-        tells_before n t h =
+        pub tells_before : (r : Result (Maybe SegmentRange) Refusal) → (a.end ≡ b.start → ⊥) → b.end ≡ a.start → Tells r (joined_part (some (both_of b a))) → Tells r (join_rule a b)
+        tells_before r n t h =
             let i : b.sid ≡ a.sid = sym (bytes_lawful.same a.sid b.sid (eq_of (bytes a.sid b.sid) same_test)) in
             let k : some (both_of b a) ≡ some (record { sid = a.sid; start = b.start; end = a.end; pages = union (shown b.pages) (shown a.pages) }) =
             ap (λ (x : List ℕ). some (record { sid = x; start = b.start; end = a.end; pages = union (shown b.pages) (shown a.pages) })) i in
-            tells (some (both_of b a)) (k ∙ rw (same_test, ne_eqb a.end b.start n, eq-eqb b.end a.start t)) h
+            tells r (some (both_of b a)) (k ∙ rw (same_test, ne_eqb a.end b.start n, eq-eqb b.end a.start t)) h
 
-        pub tells_apart : (a.end ≡ b.start → ⊥) → (b.end ≡ a.start → ⊥) → r ≡ no_range 0 → Tells r (join_rule a b)
-        tells_apart n m h = tells none (rw (same_test, ne_eqb a.end b.start n, ne_eqb b.end a.start m)) h
+        pub tells_apart : (a.end ≡ b.start → ⊥) → (b.end ≡ a.start → ⊥) → Tells (Ok None) (join_rule a b)
+        tells_apart n m = tells_none (rw (same_test, ne_eqb a.end b.start n, ne_eqb b.end a.start m))

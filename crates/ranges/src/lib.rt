@@ -9,7 +9,8 @@ ghost use Rattle.commit.specs.Says.{Tells};
 ghost use Rattle.ranges.specs.Rules.{join_rule, both_of};
 
 use basics::id;
-use commit::{RangeAnswer, SegmentRange, found_range, no_range};
+use basics::refusal::Refusal;
+use commit::SegmentRange;
 use pageset::{form, sets};
 
 // The number of bytes of a range that does not end before it starts.
@@ -21,7 +22,7 @@ pub fn size(r: SegmentRange) -> u64
 }
 
 // Two ranges of a segment as one: 22 where their pages need over 32 windows.
-fn joined(left: SegmentRange, right: SegmentRange) -> RangeAnswer
+fn joined(left: SegmentRange, right: SegmentRange) -> Result<Option<SegmentRange>, Refusal>
     requires pages_value { normal left.pages ≡ true }
     requires pages_value_2 { normal right.pages ≡ true }
     ensures { Tells result (joined_part (some (both_of left right))) }
@@ -30,41 +31,40 @@ fn joined(left: SegmentRange, right: SegmentRange) -> RangeAnswer
     let b = right.pages;
     let all = sets::union(a, b);
     if all.code != 0 {
-        return no_range(22);
+        return Err(Refusal::TooWide);
     }
     let sid = left.sid;
     let pages = all.set;
-    let range = SegmentRange {
+    Ok(Some(SegmentRange {
         sid,
         start: left.start,
         end: right.end,
         pages,
-    };
-    found_range(range)
+    }))
 }
 
 // Two ranges joined: 2 for one that ends before it starts, 3 for a set that is not in form, none where they are of other segments or do not touch, then 22.
-pub fn join(left: SegmentRange, right: SegmentRange) -> RangeAnswer
+pub fn join(left: SegmentRange, right: SegmentRange) -> Result<Option<SegmentRange>, Refusal>
     ensures { Tells result (join_rule left right) }
 {
     if left.end < left.start {
-        return no_range(2);
+        return Err(Refusal::Reversed);
     }
     if right.end < right.start {
-        return no_range(2);
+        return Err(Refusal::Reversed);
     }
     let a = left.pages;
     if !form::is_normal(a) {
-        return no_range(3);
+        return Err(Refusal::Form);
     }
     let b = right.pages;
     if !form::is_normal(b) {
-        return no_range(3);
+        return Err(Refusal::Form);
     }
     let x = left.sid;
     let y = right.sid;
     if !id::same(x, y) {
-        return no_range(0);
+        return Ok(None);
     }
     if left.end == right.start {
         return joined(left, right);
@@ -72,5 +72,5 @@ pub fn join(left: SegmentRange, right: SegmentRange) -> RangeAnswer
     if right.end == left.start {
         return joined(right, left);
     }
-    no_range(0)
+    Ok(None)
 }

@@ -27,7 +27,6 @@ use snapshotbytes::snapshot_write;
 use viewcalls::{is_latest, snapshot_of};
 use volume::snapshot::Snapshot;
 use volume::volume::Volume;
-use volumecalls::no_volume;
 use volumes::{find_volume, volume_at, volumes_formed};
 use writecalls::{logs_formed, write_room, write_stored};
 
@@ -99,8 +98,8 @@ pub struct Plan {
 fn no_plan(code: u32) -> Plan
     ensures { result.code ≡ code }
 {
-    let none = no_volume(code);
-    let volume = none.volume;
+    let none = [0u8; 16];
+    let volume = Volume::new(none, none, none, None, None);
     Plan {
         code,
         volume,

@@ -1,9 +1,11 @@
 -- The ends of the calls: each test that the code has passed takes the rule's test away, in the rule's order, so that at each return the rule's answer is what the code answers.
-use Rattle.std.proofs.Common.{◌≡◌, ℕ, Bool, true, false, ◌&&◌, eqb, List, map, length, take, sym, ap, ◌∙◌, arith, le-ltb, lt-ltb, eq-eqb, ne_eqb, le-leb}
-use mathlib.Core.Option.{Option}
+use Rattle.std.proofs.Common.{◌≡◌, ℕ, Bool, true, false, ◌&&◌, eqb, List, map, length, take, sym, ap, ◌∙◌, arith, le-ltb, lt-ltb, eq-eqb, ne_eqb, le-leb, Option as Maybe, Some, None, Ok}
+use mathlib.Core.Option.{Option, none, some}
 use mathlib.Core.Bool.{and-false}
 use Rattle.basics.specs.Answers.{Answer, refused, done}
 use Rattle.basics.specs.Numbers.{counts}
+use Rattle.basics.specs.Says.{maybe_lsn_says}
+use Rattle.basics.specs.declared.lsn.Lsn.{Lsn}
 use Rattle.rules.specs.Records.{Id, Commit, Snapshot}
 use Rattle.rules.specs.Tables.{commits_formed, index_formed, checkpoint_at}
 use Rattle.rules.specs.Arguments.{snapshot_lsns, snapshot_order, snapshot_form}
@@ -17,6 +19,7 @@ use Rattle.layout.proofs.LentLaws.{lent_no, lent_yes}
 use Rattle.rows.proofs.Rows.{formed_rules}
 use Rattle.rows.proofs.Tables.{commits, index, checkpoints}
 use Rattle.volume.specs.Snapshots.{range_says, snapshot_says, laid}
+use Rattle.volume.specs.Volumes.{maybe_lsn_says as found_says}
 use Rattle.volume.specs.declared.snapshot.Snapshot.{Snapshot as CodeSnapshot}
 use Rattle.lookups.specs.Found.{checkpoint_lsn}
 use Rattle.arguments.specs.Snapshots.{snapshot_in, snapshot_formed}
@@ -115,8 +118,13 @@ module _ (t : List ℕ) (log : Id) (lsn : ℕ) where
         let c : counts lsn ≡ false = le-ltb 0 lsn (omega arith) in
         sym (lent_yes (checkpoints_ok t) (checkpoint_read (checkpoints_in t) log lsn) ok ∙ rw (formed_rules checkpoints t ok, c))
 
-    pub checkpoint_told : (lsn ≡ 0 → ⊥) → (o : Option ℕ) → o ≡ checkpoint_lsn (checkpoint_at (checkpoints_in t) log lsn) → done o ≡ lent (checkpoints_ok t) (checkpoint_read (checkpoints_in t) log lsn)
+    checkpoint_told : (lsn ≡ 0 → ⊥) → (o : Option ℕ) → o ≡ checkpoint_lsn (checkpoint_at (checkpoints_in t) log lsn) → done o ≡ lent (checkpoints_ok t) (checkpoint_read (checkpoints_in t) log lsn)
     unfolding checkpoint_read
     checkpoint_told z o h =
         let c : counts lsn ≡ true = lt-ltb 0 lsn (omega arith) in
         ap done h ∙ sym (lent_yes (checkpoints_ok t) (checkpoint_read (checkpoints_in t) log lsn) ok ∙ rw (formed_rules checkpoints t ok, c))
+
+    -- what the lookup finds
+    pub checkpoint_done : (lsn ≡ 0 → ⊥) → (o : Maybe Lsn) → found_says o ≡ checkpoint_lsn (checkpoint_at (checkpoints_in t) log lsn) → maybe_lsn_says (Ok o) ≡ lent (checkpoints_ok t) (checkpoint_read (checkpoints_in t) log lsn)
+    checkpoint_done z None h = checkpoint_told z none h
+    checkpoint_done z (Some n) h = checkpoint_told z (some n.0) h

@@ -13,6 +13,7 @@ ghost use Rattle.arguments.specs.Replies.{value_or};
 ghost use Rattle.searchcalls.specs.Searches.{Within, hit_says, HitOf, entry_commit, search_in};
 
 use arguments::Reply;
+use arguments::replies::refused;
 use arguments::snapshots::{snapshot_arg, snapshot_ok};
 use basics::id::LogId;
 use basics::lsn::Lsn;
@@ -24,27 +25,25 @@ use layout::COMMIT;
 use lookups::entry_in;
 use volume::snapshot::LogRange;
 
-// Where a search ends: at a commit of the table, at no entry, or at an entry whose commit is not stored.
-#[derive(Clone, Copy)]
-enum Hit {
-    At(usize),
-    Nothing,
-    Unstored,
-}
-
-// The commit that an index entry names.
-fn entry_commit(commits: &[u8], log: LogId, lsn: Lsn) -> Hit
+// The place of the commit that an index entry names: 21 where it is not stored.
+fn entry_commit(commits: &[u8], log: LogId, lsn: Lsn) -> Result<Option<usize>, Refusal>
     requires { commits_ok commits.now ≡ true }
     ensures { HitOf commits.now (entry_commit (commits_in commits.now) log lsn.0) result }
 {
     match find_commit(commits, log, lsn.0) {
-        Some(i) => Hit::At(i),
-        None => Hit::Unstored,
+        Some(i) => Ok(Some(i)),
+        None => Err(Refusal::NoCommit),
     }
 }
 
-// The search over the first ranges of a path: the first that has an entry of the page decides.
-fn search_path(commits: &[u8], index: &[u8], path: [LogRange; 8], len: usize, page: PageIdx) -> Hit
+// The search over the first ranges of a path: the first that has an entry of the page decides. It answers the place of that entry's commit, or nothing where no range has one: 21.
+fn search_path(
+    commits: &[u8],
+    index: &[u8],
+    path: [LogRange; 8],
+    len: usize,
+    page: PageIdx,
+) -> Result<Option<usize>, Refusal>
     requires { (commits_ok commits.now ≡ true) × (index_ok index.now ≡ true) × (len ≤ 8) }
     ensures { HitOf commits.now (search_path (commits_in commits.now) (index_in index.now) page.0 (map range_says (take len path))) result }
 {
@@ -54,21 +53,21 @@ fn search_path(commits: &[u8], index: &[u8], path: [LogRange; 8], len: usize, pa
             return entry_commit(commits, range.log, lsn);
         }
     }
-    Hit::Nothing
+    Ok(None)
 }
 
 // What a search found: a commit's bytes go to `out`.
-fn put_hit(commits: &[u8], hit: Hit, out: &mut [u8]) -> Reply
+fn put_hit(commits: &[u8], hit: Result<Option<usize>, Refusal>, out: &mut [u8]) -> Reply
     requires { (commits_ok commits.now ≡ true) × Within commits.now hit × (length out.old ≡ 722) }
     ensures { (result, out.new) ≡ value_or commit_bytes.spell out.old (hit_says commits.now hit) }
 {
     match hit {
-        Hit::At(i) => {
+        Err(refusal) => refused(refusal),
+        Ok(Some(i)) => {
             octets::load_all(commits, commits::row(commits, i), out);
             Reply { code: 0, found: 1 }
         }
-        Hit::Nothing => Reply { code: 0, found: 0 },
-        Hit::Unstored => Reply { code: 21, found: 0 },
+        Ok(None) => Reply { code: 0, found: 0 },
     }
 }
 
@@ -77,26 +76,26 @@ pub fn search(commits: &[u8], index: &[u8], snapshot: &[u8], page: PageIdx, out:
     ensures { (result, out.new) ≡ value_or commit_bytes.spell out.old (lent (commits_ok commits.now && index_ok index.now) (search_in (commits_in commits.now) (index_in index.now) snapshot.now page.0 out.old)) }
 {
     if !commits_formed(commits) {
-        return Reply { code: 20, found: 0 };
+        return refused(Refusal::TableForm);
     }
     if !index_formed(index) {
-        return Reply { code: 20, found: 0 };
+        return refused(Refusal::TableForm);
     }
     let s = snapshot_arg(snapshot);
     if !s.has_lsns() {
-        return Reply { code: 1, found: 0 };
+        return refused(Refusal::Zero);
     }
     if page.0 == 0 {
-        return Reply { code: 1, found: 0 };
+        return refused(Refusal::Zero);
     }
     if !s.is_ordered() {
-        return Reply { code: 2, found: 0 };
+        return refused(Refusal::Reversed);
     }
     if !snapshot_ok(snapshot) {
-        return Reply { code: 3, found: 0 };
+        return refused(Refusal::Form);
     }
     if out.len() != COMMIT {
-        return Reply { code: 3, found: 0 };
+        return refused(Refusal::Form);
     }
     let path = s.path;
     put_hit(commits, search_path(commits, index, path, s.len, page), out)
@@ -112,8 +111,5 @@ pub fn checkpoint_at(checkpoints: &[u8], log: LogId, lsn: Lsn) -> Result<Option<
     if lsn.0 == 0 {
         return Err(Refusal::Zero);
     }
-    match lookups::checkpoint_at(checkpoints, log, lsn) {
-        Some(n) => Ok(Some(n)),
-        None => Ok(None),
-    }
+    Ok(lookups::checkpoint_at(checkpoints, log, lsn))
 }

@@ -1,19 +1,18 @@
 -- Segments and ranges across the boundary: an answer by value and what is left of it. A range whose set is in normal form fills a lent slice of its size. Assumes nothing.
-use Rattle.std.proofs.Common.{◌≡◌, ℕ, Bool, true, false, cond, ◌&&◌, eqb, leb, List, ◌++◌, length, sym, refl, ap, ◌∙◌, subst, ap₂, arith, length-append, eq-eqb, ne_eqb}
+use Rattle.std.proofs.Common.{◌≡◌, ℕ, Bool, true, false, cond, ◌&&◌, eqb, leb, List, ◌++◌, length, sym, refl, ap, ◌∙◌, ap₂, arith, length-append, eq-eqb, ne_eqb, Option as Maybe, Result}
 use mathlib.Core.Option.{Option, none, some}
 use Rattle.octets.specs.Bytes.{bytes_of, part}
 use Rattle.octets.proofs.Numbers.{length_bytes_of}
-use Rattle.basics.specs.Answers.{Answer, refused, done, ask, ◌>>=◌, ◌>>◌}
+use Rattle.basics.specs.Answers.{Answer, refused, done, code, ask, ◌>>=◌, ◌>>◌}
 use Rattle.basics.specs.Numbers.{counts}
+use Rattle.basics.specs.declared.refusal.Refusal.{Refusal}
 use Rattle.pageset.specs.Sets.{normal, normal_form, shown}
-use Rattle.pageset.proofs.FormLaws.{and_fst, and_snd, and_both, shown_form, empty_normal}
+use Rattle.pageset.proofs.FormLaws.{and_fst, and_snd, and_both, shown_form}
 use Rattle.rules.specs.Forms.{lists_form}
 use Rattle.rules.specs.Frames.{Part, frame_of, part_of, touching, joined_part, join}
-use Rattle.commit.specs.declared.Presence.{Presence}
 use Rattle.commit.specs.declared.SegmentIdx.{SegmentIdx}
 use Rattle.commit.specs.declared.SegmentRange.{SegmentRange}
-use Rattle.commit.specs.declared.RangeAnswer.{RangeAnswer}
-use Rattle.commit.specs.Says.{given_says, no_range, range_says, segment_says, Tells}
+use Rattle.commit.specs.Says.{range_says, answer_says, segment_says, Tells}
 use Rattle.frames.specs.Rules.{frame_rule, spelled}
 use Rattle.ranges.specs.Rules.{join_rule}
 use Rattle.layout.specs.Codecs.{in_form}
@@ -61,40 +60,29 @@ module _ (b : List ℕ) where
 
 -- ---- an answer by value, as it is put
 
-module _ (was : List ℕ) (a : RangeAnswer) where
-  abbrev own : Reply × List ℕ
-  own = (none_under a.code, was)
+module _ (was : List ℕ) (q : Answer (Option Part)) where
+  by : Bool → Bool → Reply × List ℕ
+  by e l = cond e (none_under (code q), was) (cond l (range_bytes was q) (none_under 3, was))
 
-  abbrev shows : Presence → Reply × List ℕ
-  shows p = range_bytes was (done (given_says p (range_says a.range)))
-
-  by : Bool → Bool → Bool → Reply × List ℕ
-  by e l z = cond e own (cond l (cond z (shows a.found) own) (none_under 3, was))
-
-  is_by : (e l z : Bool) → early a.code ≡ e → eqb (length was) 417 ≡ l → eqb a.code 0 ≡ z → by e l z ≡ range_put was a
+  is_by : (e l : Bool) → early (code q) ≡ e → eqb (length was) 417 ≡ l → by e l ≡ range_put was q
   unfolding range_put by
-  is_by e l z p q r = rw (← p, ← q, ← r)
+  is_by e l p r = rw (← p, ← r)
 
   -- 1, 2 or 3
-  pub put_early : early a.code ≡ true → own ≡ range_put was a
+  pub put_early : early (code q) ≡ true → (none_under (code q), was) ≡ range_put was q
   unfolding by
-  put_early p = is_by true (eqb (length was) 417) (eqb a.code 0) p refl refl
+  put_early p = is_by true (eqb (length was) 417) p refl
 
-  module _ (p : early a.code ≡ false) where
+  module _ (p : early (code q) ≡ false) where
     -- a lent slice of another length
-    pub put_short : (length was ≡ 417 → ⊥) → (none_under 3, was) ≡ range_put was a
+    pub put_short : (length was ≡ 417 → ⊥) → (none_under 3, was) ≡ range_put was q
     unfolding by
-    put_short h = is_by false false (eqb a.code 0) p (ne_eqb (length was) 417 h) refl
+    put_short h = is_by false false p (ne_eqb (length was) 417 h)
 
-    -- 22
-    pub put_22 : length was ≡ 417 → (a.code ≡ 0 → ⊥) → own ≡ range_put was a
+    -- 22, nothing or a range
+    pub put_shown : length was ≡ 417 → range_bytes was q ≡ range_put was q
     unfolding by
-    put_22 e h = is_by false true false p (eq-eqb (length was) 417 e) (ne_eqb a.code 0 h)
-
-    -- nothing, or a range
-    pub put_shown : length was ≡ 417 → a.code ≡ 0 → (q : Presence) → a.found ≡ q → shows q ≡ range_put was a
-    unfolding by
-    put_shown e h q f = ap shows (sym f) ∙ is_by false true true p (eq-eqb (length was) 417 e) (eq-eqb a.code 0 h)
+    put_shown e = is_by false true p (eq-eqb (length was) 417 e)
 
 -- ---- what is left of an answer to a rule
 
@@ -107,17 +95,15 @@ ends : {A : Type 0} (q : Answer A) → (q >>= done) ≡ q
 ends (refused n) = refl
 ends (done x) = refl
 
-module _ (was : List ℕ) (a : RangeAnswer) where
+module _ (was : List ℕ) where
   abbrev left_by : Bool → Answer (Option Part) → Reply × List ℕ
   left_by l y = cond l (range_bytes was y) (none_under 3, was)
 
   -- after the lent slice: 22, nothing or the range
-  late_range : (y : Answer (Option Part)) → Late y → Tells a y → range_put was a ≡ left_by (eqb (length was) 417) y
-  unfolding range_put by
-  late_range (refused n) l e = ap (range_put was) (e ∙ ap no_range l) ∙ ap (λ (k : ℕ). left_by (eqb (length was) 417) (refused k)) (sym l)
-  late_range (done none) l e = ap (range_put was) e
-  late_range (done (some f)) l e =
-      ap (λ (k : ℕ). by was (record { code = k; found = a.found; range = a.range }) (early k) (eqb (length was) 417) (eqb k 0)) e.0 ∙ ap₂ (λ (p : Presence) (x : Part). left_by (eqb (length was) 417) (done (given_says p x))) e.1 e.2.says
+  late_range : (y : Answer (Option Part)) → Late y → range_put was y ≡ left_by (eqb (length was) 417) y
+  unfolding range_put
+  late_range (refused n) l = rw l
+  late_range (done x) l = refl
 
   -- the lent slice between the two
   between : (l : Bool) (x : Option Part) (late : Option Part → Answer (Option Part)) → left_by l (late x) ≡ range_bytes was ((ask l 3 >> done x) >>= late)
@@ -125,22 +111,16 @@ module _ (was : List ℕ) (a : RangeAnswer) where
   between false x late = refl
 
   -- a rule whose last numbers come after the lent slice
-  left_range_late : (q : Answer (Option Part)) (late : Option Part → Answer (Option Part)) → Early q → ((x : Option Part) → Late (late x)) → Tells a (q >>= late)
-      → range_put was a ≡ range_bytes was (sized part_bytes.size was q >>= late)
-  left_range_late (refused n) late l h e =
-      let c : a.code ≡ n = ap (λ (x : RangeAnswer). x.code) e in
-      sym (put_early was a (ap early c ∙ is_early n l.0 l.1)) ∙ ap (λ (k : ℕ). (none_under k, was)) c
-  left_range_late (done x) late l h e =
-      late_range (late x) (h x) e ∙ between (eqb (length was) 417) x late ∙ ap (λ (n : ℕ). range_bytes was ((ask (eqb (length was) n) 3 >> done x) >>= late)) (sym range_size)
+  left_range_late : (q : Answer (Option Part)) (late : Option Part → Answer (Option Part)) → Early q → ((x : Option Part) → Late (late x))
+      → range_put was (q >>= late) ≡ range_bytes was (sized part_bytes.size was q >>= late)
+  left_range_late (refused n) late l h = sym (put_early was (refused n) (is_early n l.0 l.1))
+  left_range_late (done x) late l h =
+      late_range (late x) (h x) ∙ between (eqb (length was) 417) x late ∙ ap (λ (n : ℕ). range_bytes was ((ask (eqb (length was) n) 3 >> done x) >>= late)) (sym range_size)
 
   -- and one that has none
-  pub left_range : (q : Answer (Option Part)) → Early q → Tells a q → range_put was a ≡ range_left was q
-  left_range q l e = left_range_late q done l (λ x. tt) (subst (Tells a) (sym (ends q)) e) ∙ ap (range_bytes was) (ends (sized part_bytes.size was q))
-
-pub tells_normal : (a : RangeAnswer) (q : Answer (Option Part)) → Tells a q → normal a.range.pages ≡ true
-tells_normal a (refused n) e = ap (λ (x : RangeAnswer). normal x.range.pages) e ∙ empty_normal
-tells_normal a (done none) e = ap (λ (x : RangeAnswer). normal x.range.pages) e ∙ empty_normal
-tells_normal a (done (some f)) e = e.2.normal
+  pub left_range : (r : Result (Maybe SegmentRange) Refusal) (q : Answer (Option Part)) → Early q → Tells r q → range_put was (answer_says r) ≡ range_left was q
+  left_range r q l e =
+      ap (range_put was) (e.says ∙ sym (ends q)) ∙ left_range_late q done l (λ x. tt) ∙ ap (range_bytes was) (ends (sized part_bytes.size was q))
 
 four : {A : Type 0} (b c d e : Bool) (x : A) → Early (ask b 1 >> (ask c 3 >> (ask d 1 >> (ask e 3 >> done x))))
 four true true true true x = tt
@@ -180,7 +160,8 @@ joined_late : (x : Option Part) → Late (joined_part x)
 joined_late none = tt
 joined_late (some f) = over_32 (leb (length f.pages) 32) f
 
-pub left_join : (was : List ℕ) (r : RangeAnswer) (a b : SegmentRange) → Tells r (join_rule a b) → range_put was r ≡ join_left was a b
+pub left_join : (was : List ℕ) (r : Result (Maybe SegmentRange) Refusal) (a b : SegmentRange) → Tells r (join_rule a b) → range_put was (answer_says r) ≡ join_left was a b
 unfolding touch_rule
 left_join was r a b e =
-    left_range_late was r (touch_rule a b) joined_part (two_three (leb a.start a.end && leb b.start b.end) (normal a.pages && normal b.pages) (touching (range_says a) (range_says b))) joined_late (subst (Tells r) (join_touch a b) e)
+    ap (range_put was) (e.says ∙ join_touch a b)
+    ∙ left_range_late was (touch_rule a b) joined_part (two_three (leb a.start a.end && leb b.start b.end) (normal a.pages && normal b.pages) (touching (range_says a) (range_says b))) joined_late

@@ -1,15 +1,14 @@
 -- A segment or a range of one in bytes as an argument, and a range as an answer.
 use Rattle.std.specs.Prelude.{ℕ, Bool, cond, ◌&&◌, List, length, replicate, ◌==◌, nat_le}
 use Rattle.std.proofs.Math.Option.{Option}
-use Rattle.basics.specs.Answers.{Answer, done, ask, ◌>>=◌, ◌>>◌}
+use Rattle.basics.specs.Answers.{Answer, code, done, ask, ◌>>=◌, ◌>>◌}
 use Rattle.pageset.specs.Sets.{normal}
 use Rattle.rules.specs.Forms.{segment_form}
 use Rattle.rules.specs.Frames.{Part, touching, joined_part}
 use Rattle.commit.specs.declared.SegmentIdx.{SegmentIdx}
 use Rattle.commit.specs.declared.SegmentRange.{SegmentRange}
-use Rattle.commit.specs.declared.RangeAnswer.{RangeAnswer}
 use Rattle.commit.specs.Builders.{zero_frames}
-use Rattle.commit.specs.Says.{given_says, range_says}
+use Rattle.commit.specs.Says.{range_says}
 use Rattle.layout.specs.Codecs.{in_form}
 use Rattle.layout.specs.Values.{segment_bytes, part_bytes}
 use Rattle.segmentbytes.specs.Laid.{segment_laid, part_form}
@@ -59,10 +58,8 @@ touch_rule a b = do
 abbrev pub join_left : List ℕ → SegmentRange → SegmentRange → Reply × List ℕ
 join_left was a b = range_bytes was (sized part_bytes.size was (touch_rule a b) >>= joined_part)
 
--- an answer by value, as it is put: 1, 2 and 3, then the lent slice, then 22 or the range
-unfoldable pub range_put : List ℕ → RangeAnswer → Reply × List ℕ
-range_put was a =
-    cond (early a.code) (none_under a.code, was)
-    (cond (length was == 417)
-    (cond (a.code == 0) (range_bytes was (done (given_says a.found (range_says a.range)))) (none_under a.code, was))
-    (none_under 3, was))
+-- an answer by value, as it is put: 1, 2 and 3, then the lent slice, then 22, nothing or the range
+unfoldable pub range_put : List ℕ → Answer (Option Part) → Reply × List ℕ
+range_put was q =
+    cond (early (code q)) (none_under (code q), was)
+    (cond (length was == 417) (range_bytes was q) (none_under 3, was))

@@ -4,12 +4,15 @@
 pub mod lists;
 
 ghost use Rattle.std.specs.Prelude.{◌≡◌, true};
-ghost use Rattle.pageset.specs.Sets.{normal};
+ghost use Rattle.basics.specs.Answers.{code};
+ghost use Rattle.commit.specs.Says.{answer_says, answer_form};
 ghost use Rattle.segmentargs.specs.Segments.{not_asegment, segment_arg, not_arange, range_arg, range_put};
 
 use arguments::Reply;
+use arguments::replies::refused;
 use arguments::sets::{is_early, not_a_set};
-use commit::{Presence, RangeAnswer, SegmentIdx, SegmentRange};
+use basics::refusal::Refusal;
+use commit::{SegmentIdx, SegmentRange};
 use layout::{RANGE, SEGMENT};
 use segmentbytes::{range_form, range_read, range_write, segment_form, segment_read};
 
@@ -76,26 +79,32 @@ pub fn range_arg(b: &[u8]) -> SegmentRange
     }
 }
 
-// A range's answer in bytes: 1, 2 or 3 of the call; 3 for a lent slice of another length; 22; nothing; or the range.
-pub fn put_range(a: RangeAnswer, out: &mut [u8]) -> Reply
-    requires { normal a.range.pages ≡ true }
-    ensures { (result, out.new) ≡ range_put out.old a }
+// The number of a range's answer; 0 where it is not refused.
+fn number(a: Result<Option<SegmentRange>, Refusal>) -> u32
+    ensures { result ≡ code (answer_says a) }
 {
-    let code = a.code;
+    match a {
+        Err(refusal) => refusal.number(),
+        Ok(_) => 0,
+    }
+}
+
+// A range's answer in bytes: 1, 2 or 3 of the call; 3 for a lent slice of another length; 22; nothing; or the range.
+pub fn put_range(a: Result<Option<SegmentRange>, Refusal>, out: &mut [u8]) -> Reply
+    requires { answer_form a ≡ true }
+    ensures { (result, out.new) ≡ range_put out.old (answer_says a) }
+{
+    let code = number(a);
     if is_early(code) {
         return Reply { code, found: 0 };
     }
     if out.len() != RANGE {
         return Reply { code: 3, found: 0 };
     }
-    if code != 0 {
-        return Reply { code, found: 0 };
-    }
-    let found = a.found;
-    match found {
-        Presence::Missing => Reply { code: 0, found: 0 },
-        Presence::Given => {
-            let range = a.range;
+    match a {
+        Err(refusal) => refused(refusal),
+        Ok(None) => Reply { code: 0, found: 0 },
+        Ok(Some(range)) => {
             range_write(out, 0, range);
             Reply { code: 0, found: 1 }
         }

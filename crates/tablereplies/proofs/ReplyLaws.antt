@@ -1,5 +1,5 @@
 -- What is left of an answer to a rule, by the cases of the rule's answer. A volume's rule does not answer 20 where its table is formed, so its own numbers come behind the lent place's 3. Assumes nothing.
-use Rattle.std.proofs.Common.{◌≡◌, ℕ, Bool, true, false, cond, eqb, List, length, sym, refl, ap, ◌∙◌, ap₂}
+use Rattle.std.proofs.Common.{◌≡◌, ℕ, Bool, true, false, List, length, sym, refl, ap, ◌∙◌, ap₂, eq-eqb, ne_eqb}
 use mathlib.Core.Option.{Option, none, some}
 use Rattle.basics.specs.Answers.{Answer, refused, done, ask, need, ◌>>◌, ◌>>=◌}
 use Rattle.rules.specs.Lists.{is_some}
@@ -11,22 +11,11 @@ use Rattle.layout.specs.Records.{volume_bytes}
 use Rattle.layout.specs.Tables.{volumes_in, volumes_ok}
 use Rattle.layout.specs.Lent.{lent}
 use Rattle.layout.proofs.LentLaws.{lent_yes, lent_no}
-use Rattle.volume.specs.Volumes.{volume_says}
-use Rattle.volumebytes.proofs.RoundLaws.{says_laid}
-use Rattle.volumecalls.specs.Says.{volume_answer}
 use Rattle.volumecalls.proofs.Ends.{read_is}
-use Rattle.tagcalls.specs.Says.{tagged_answer}
 use Rattle.commitcalls.specs.Says.{Answered, out_after}
 use Rattle.arguments.specs.declared.Reply.{Reply}
-use Rattle.arguments.specs.Replies.{none_under, given, value, value_or, yes_or_no, placed}
-use Rattle.tablereplies.specs.Records.{volume_left, volume_put, tagged_put}
-
--- ---- a tag's volume
-
-pub left_tagged : (was : Id) (q : Answer (Option Id)) → tagged_put was (tagged_answer q) ≡ value_or (λ v. v) was q
-left_tagged was (refused n) = refl
-left_tagged was (done none) = refl
-left_tagged was (done (some v)) = refl
+use Rattle.arguments.specs.Replies.{none_under, value, value_or, yes_or_no, placed}
+use Rattle.tablereplies.specs.Records.{volume_left, volume_put}
 
 -- ---- a record that the call wrote itself
 
@@ -43,19 +32,21 @@ module _ {R : Type 0} (c : Codec R) (was : List ℕ) where
 
 module _ (was : List ℕ) where
   -- past 20: the lent place, then the volume or 4
-  by_place : (b : Bool) (o : Option Volume) → let a = volume_answer (need o 4) in
-      cond (eqb a.code 20) (none_under a.code, was) (cond b (cond (eqb a.code 0) (given, volume_bytes.spell (volume_says a.volume)) (none_under a.code, was)) (none_under 3, was))
-      ≡ value volume_bytes.spell was (ask b 3 >> need o 4)
-  by_place true none = refl
-  by_place true (some v) = ap (λ (w : Volume). (given, volume_bytes.spell w)) (says_laid v)
-  by_place false none = refl
-  by_place false (some v) = refl
+  put_need : (o : Option Volume) → volume_put was (need o 4) ≡ value volume_bytes.spell was (placed 117 was (need o 4))
+  unfolding volume_put
+  put_need none = refl
+  put_need (some v) = refl
 
-  put_need : (o : Option Volume) → volume_put was (volume_answer (need o 4)) ≡ value volume_bytes.spell was (placed 117 was (need o 4))
-  unfolding volume_put placed
-  put_need o = by_place (eqb (length was) 117) o
+  -- the lent place is asked: 3 for another length
+  pub unplaced : (a : Answer Volume) → (length was ≡ 117 → ⊥) → (none_under 3, was) ≡ value volume_bytes.spell was (placed 117 was a)
+  unfolding placed
+  unplaced a n = ap (λ (b : Bool). value volume_bytes.spell was (ask b 3 >> a)) (sym (ne_eqb (length was) 117 n))
 
-  put_20 : volume_put was (volume_answer (refused 20)) ≡ (none_under 20, was)
+  pub in_place : (a : Answer Volume) → length was ≡ 117 → value volume_bytes.spell was a ≡ value volume_bytes.spell was (placed 117 was a)
+  unfolding placed
+  in_place a n = ap (λ (b : Bool). value volume_bytes.spell was (ask b 3 >> a)) (sym (eq-eqb (length was) 117 n))
+
+  put_20 : volume_put was (refused 20) ≡ (none_under 20, was)
   unfolding volume_put
   put_20 = refl
 
@@ -63,24 +54,24 @@ module _ (was : List ℕ) where
     abbrev rule : Answer Volume
     rule = volume_read (volumes_in t) vid
 
-    formed : volumes_ok t ≡ true → volume_put was (volume_answer (lent (volumes_ok t) rule)) ≡ volume_left was (volumes_ok t) rule
+    formed : volumes_ok t ≡ true → volume_put was (lent (volumes_ok t) rule) ≡ volume_left was (volumes_ok t) rule
     formed ok =
         let o = get_volume (volumes_in t) vid in
         let is : rule ≡ need o 4 = sym (lent_yes (volumes_ok t) rule ok) ∙ read_is t vid ok in
-        ap (λ (q : Answer Volume). volume_put was (volume_answer q)) (read_is t vid ok)
+        ap (volume_put was) (read_is t vid ok)
         ∙ put_need o
         ∙ ap (λ (q : Answer Volume). value volume_bytes.spell was (placed 117 was q)) (sym is)
         ∙ ap (value volume_bytes.spell was) (sym (lent_yes (volumes_ok t) (placed 117 was rule) ok))
 
-    unformed : volumes_ok t ≡ false → volume_put was (volume_answer (lent (volumes_ok t) rule)) ≡ volume_left was (volumes_ok t) rule
+    unformed : volumes_ok t ≡ false → volume_put was (lent (volumes_ok t) rule) ≡ volume_left was (volumes_ok t) rule
     unformed bad =
-        ap (λ (q : Answer Volume). volume_put was (volume_answer q)) (lent_no (volumes_ok t) rule bad)
+        ap (volume_put was) (lent_no (volumes_ok t) rule bad)
         ∙ put_20
         ∙ ap (value volume_bytes.spell was) (sym (lent_no (volumes_ok t) (placed 117 was rule) bad))
 
-    either : (b : Bool) → volumes_ok t ≡ b → volume_put was (volume_answer (lent (volumes_ok t) rule)) ≡ volume_left was (volumes_ok t) rule
+    either : (b : Bool) → volumes_ok t ≡ b → volume_put was (lent (volumes_ok t) rule) ≡ volume_left was (volumes_ok t) rule
     either true e = formed e
     either false e = unformed e
 
-    pub left_volume : volume_put was (volume_answer (lent (volumes_ok t) rule)) ≡ volume_left was (volumes_ok t) rule
+    pub left_volume : volume_put was (lent (volumes_ok t) rule) ≡ volume_left was (volumes_ok t) rule
     left_volume = either (volumes_ok t) refl

@@ -18,7 +18,6 @@ use Rattle.layout.proofs.LentLaws.{past_20}
 use Rattle.rows.specs.Lookups.{nth, at_spot}
 use Rattle.rows.proofs.Rows.{formed_rules}
 use Rattle.rows.proofs.Tables.{tags}
-use Rattle.tagcalls.specs.Says.{tagged_answer}
 
 -- ---- arguments
 
@@ -46,12 +45,12 @@ module _ (t : List ℕ) (name : Name) (o : Result ℕ ℕ) (i : ℕ) (says : at_
   pub nowhere : o ≡ Err i → get_tag (tags_in t) name ≡ none
   nowhere a = sym says ∙ ap (λ (p : Result ℕ ℕ). at_spot p (tags_in t).rows) a
 
-  -- the volume that the tag there names, as the answer
-  pub names : o ≡ Ok i → (vid : Id) → map (λ (g : Tag). g.vid) (nth i (tags_in t).rows) ≡ some vid → tagged_answer (done (some vid)) ≡ tagged_answer (done (tagged (tags_in t) name))
-  names a vid e = ap (λ (x : Option Id). tagged_answer (done x)) (sym e ∙ ap (map (λ (g : Tag). g.vid)) (here a))
+  -- the volume that the tag there names
+  pub names : o ≡ Ok i → (vid : Id) → map (λ (g : Tag). g.vid) (nth i (tags_in t).rows) ≡ some vid → some vid ≡ tagged (tags_in t) name
+  names a vid e = sym e ∙ ap (map (λ (g : Tag). g.vid)) (here a)
 
-  pub names_none : o ≡ Err i → tagged_answer (refused 0) ≡ tagged_answer (done (tagged (tags_in t) name))
-  names_none a = ap (λ (x : Option Tag). tagged_answer (done (map (λ (g : Tag). g.vid) x))) (sym (nowhere a))
+  pub names_none : o ≡ Err i → none ≡ tagged (tags_in t) name
+  names_none a = ap (map (λ (g : Tag). g.vid)) (sym (nowhere a))
 
 -- ---- 20, 1
 

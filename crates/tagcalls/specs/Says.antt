@@ -1,15 +1,20 @@
--- An answer that is a volume or nothing, as the code holds it: where there is no volume, an identifier of zeros stands for it.
-use Rattle.std.specs.Prelude.{true, false, replicate}
+-- What the answers of the calls on tags say: document 01's number, or under 0 a volume's identifier or nothing.
+use Rattle.std.specs.Prelude.{Option as Maybe, Some, None, Result, Ok, Err}
 use Rattle.std.proofs.Math.Option.{Option, none, some}
 use Rattle.basics.specs.Answers.{Answer, refused, done, ◌>>=◌}
+use Rattle.basics.specs.Refusals.{number_of}
+use Rattle.basics.specs.declared.refusal.Refusal.{Refusal}
 use Rattle.rules.specs.Records.{Id, Tag}
 use Rattle.rules.specs.Tables.{Table}
-use Rattle.tagcalls.specs.declared.TaggedAnswer.{TaggedAnswer}
 
-abbrev pub tagged_answer : Answer (Option Id) → TaggedAnswer
-tagged_answer (refused n) = record { code = n; found = false; vid = replicate 16 0 }
-tagged_answer (done none) = record { code = 0; found = false; vid = replicate 16 0 }
-tagged_answer (done (some vid)) = record { code = 0; found = true; vid = vid }
+-- a volume's identifier, or nothing
+abbrev pub named_says : Maybe Id → Option Id
+named_says None = none
+named_says (Some vid) = some vid
+
+abbrev pub tagged_says : Result (Maybe Id) Refusal → Answer (Option Id)
+tagged_says (Err r) = refused (number_of r)
+tagged_says (Ok v) = done (named_says v)
 
 -- of a replacement's answer the volume that the tag named before
 abbrev pub earlier : Answer (Option Id × Table Tag) → Answer (Option Id)

@@ -2,37 +2,19 @@
 #![tactic(auto)]
 
 ghost use Rattle.std.specs.Prelude.{◌≡◌, true};
-ghost use Rattle.basics.specs.Answers.{refused, done, code};
+ghost use Rattle.basics.specs.Answers.{code};
+ghost use Rattle.basics.specs.Refusals.{code_of};
 ghost use Rattle.pagecalls.specs.Says.{yes_says};
 ghost use Rattle.rules.specs.Forms.{name_length};
 ghost use Rattle.rules.specs.Reads.{tagged, tag_read, tag_exists, tag_delete, tag_replace};
 ghost use Rattle.layout.specs.Records.{tag_bytes};
 ghost use Rattle.layout.specs.Tables.{tags_in, tags_ok};
 ghost use Rattle.layout.specs.Lent.{lent, after};
-ghost use Rattle.tagcalls.specs.Says.{tagged_answer, earlier};
+ghost use Rattle.tagcalls.specs.Says.{named_says, tagged_says, earlier};
 
 use basics::id::VolumeId;
 use basics::refusal::Refusal;
 use tags::{find_tag, put_tag, remove_tag, room_for_tag, tagged_at, tags_formed};
-
-// Under 0 a volume that was found, or nothing; else the number of a refusal. Where there is no volume its identifier is zeros.
-#[derive(Clone, Copy)]
-pub struct TaggedAnswer {
-    pub code: u32,
-    pub found: bool,
-    pub vid: VolumeId,
-}
-
-// A refusal; under 0, nothing.
-fn no_volume(code: u32) -> TaggedAnswer
-    ensures { result ≡ tagged_answer (refused code) }
-{
-    TaggedAnswer {
-        code,
-        found: false,
-        vid: [0u8; 16],
-    }
-}
 
 // Whether a name has the length of a tag's name, 1 to 32 bytes.
 fn is_name(name: &[u8]) -> bool
@@ -49,32 +31,27 @@ fn is_name(name: &[u8]) -> bool
 }
 
 // The volume that a name names in a table of tags, or nothing.
-fn named_volume(tags: &[u8], name: &[u8]) -> TaggedAnswer
+fn named_volume(tags: &[u8], name: &[u8]) -> Option<VolumeId>
     requires { (tags_ok tags.now ≡ true) × (name_length name.now ≡ true) }
-    ensures { result ≡ tagged_answer (done (tagged (tags_in tags.now) name.now)) }
+    ensures { named_says result ≡ tagged (tags_in tags.now) name.now }
 {
     let Ok(i) = find_tag(tags, name) else {
-        return no_volume(0);
+        return None;
     };
-    let vid = tagged_at(tags, i);
-    TaggedAnswer {
-        code: 0,
-        found: true,
-        vid,
-    }
+    Some(tagged_at(tags, i))
 }
 
 // The volume that a tag names, or nothing: 20, 1.
-pub fn tag_read(tags: &[u8], name: &[u8]) -> TaggedAnswer
-    ensures { result ≡ tagged_answer (lent (tags_ok tags.now) (tag_read (tags_in tags.now) name.now)) }
+pub fn tag_read(tags: &[u8], name: &[u8]) -> Result<Option<VolumeId>, Refusal>
+    ensures { tagged_says result ≡ lent (tags_ok tags.now) (tag_read (tags_in tags.now) name.now) }
 {
     if !tags_formed(tags) {
-        return no_volume(20);
+        return Err(Refusal::TableForm);
     }
     if !is_name(name) {
-        return no_volume(1);
+        return Err(Refusal::Zero);
     }
-    named_volume(tags, name)
+    Ok(named_volume(tags, name))
 }
 
 // Whether a tag is stored: 20, 1.
@@ -94,35 +71,35 @@ pub fn tag_exists(tags: &[u8], name: &[u8]) -> Result<bool, Refusal>
 }
 
 // A tag deleted; where there is none, nothing is: 20, 1.
-pub fn tag_delete(tags: &mut [u8], name: &[u8]) -> u32
-    ensures value { result ≡ code (lent (tags_ok tags.old) (tag_delete (tags_in tags.old) name.now)) }
+pub fn tag_delete(tags: &mut [u8], name: &[u8]) -> Result<(), Refusal>
+    ensures value { code_of result ≡ code (lent (tags_ok tags.old) (tag_delete (tags_in tags.old) name.now)) }
     ensures tags_after { tags.new ≡ after tag_bytes (λ t. t) tags.old (lent (tags_ok tags.old) (tag_delete (tags_in tags.old) name.now)) }
 {
     if !tags_formed(tags) {
-        return 20;
+        return Err(Refusal::TableForm);
     }
     if !is_name(name) {
-        return 1;
+        return Err(Refusal::Zero);
     }
     remove_tag(tags, name);
-    0
+    Ok(())
 }
 
 // The name names that volume from now on; answers the volume that it named before, or nothing: 20, 1, 19.
-pub fn tag_replace(tags: &mut [u8], name: &[u8], vid: VolumeId) -> TaggedAnswer
-    ensures value { result ≡ tagged_answer (earlier (lent (tags_ok tags.old) (tag_replace (tags_in tags.old) name.now vid))) }
+pub fn tag_replace(tags: &mut [u8], name: &[u8], vid: VolumeId) -> Result<Option<VolumeId>, Refusal>
+    ensures value { tagged_says result ≡ earlier (lent (tags_ok tags.old) (tag_replace (tags_in tags.old) name.now vid)) }
     ensures tags_after { tags.new ≡ after tag_bytes (λ p. p.1) tags.old (lent (tags_ok tags.old) (tag_replace (tags_in tags.old) name.now vid)) }
 {
     if !tags_formed(tags) {
-        return no_volume(20);
+        return Err(Refusal::TableForm);
     }
     if !is_name(name) {
-        return no_volume(1);
+        return Err(Refusal::Zero);
     }
     if !room_for_tag(tags, name) {
-        return no_volume(19);
+        return Err(Refusal::NoRoom);
     }
     let before = named_volume(tags, name);
     put_tag(tags, name, vid);
-    before
+    Ok(before)
 }

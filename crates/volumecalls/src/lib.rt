@@ -2,48 +2,32 @@
 #![tactic(auto)]
 
 ghost use Rattle.std.specs.Prelude.{◌≡◌};
-ghost use Rattle.basics.specs.Answers.{refused, code};
+ghost use Rattle.basics.specs.Answers.{code};
+ghost use Rattle.basics.specs.Refusals.{code_of};
 ghost use Rattle.pagecalls.specs.Says.{yes_says};
 ghost use Rattle.rules.specs.Reads.{volume_read, volume_exists, volume_delete};
 ghost use Rattle.rules.specs.Push.{drop_pending};
 ghost use Rattle.layout.specs.Records.{volume_bytes};
 ghost use Rattle.layout.specs.Tables.{volumes_in, volumes_ok};
 ghost use Rattle.layout.specs.Lent.{lent, after};
-ghost use Rattle.volumecalls.specs.Says.{volume_answer};
+ghost use Rattle.volumecalls.specs.Says.{read_says};
 
 use basics::id::VolumeId;
 use basics::refusal::Refusal;
 use volume::volume::Volume;
 use volumes::{find_volume, remove_volume, store_volume, volume_at, volumes_formed};
 
-// A volume under 0, or the number of a refusal and the volume of zeros.
-#[derive(Clone, Copy)]
-pub struct VolumeAnswer {
-    pub code: u32,
-    pub volume: Volume,
-}
-
-// A refusal.
-pub fn no_volume(code: u32) -> VolumeAnswer
-    ensures { result ≡ volume_answer (refused code) }
-{
-    let none = [0u8; 16];
-    let volume = Volume::new(none, none, none, None, None);
-    VolumeAnswer { code, volume }
-}
-
 // The volume of an identifier: 20, 4.
-pub fn volume_read(volumes: &[u8], vid: VolumeId) -> VolumeAnswer
-    ensures { result ≡ volume_answer (lent (volumes_ok volumes.now) (volume_read (volumes_in volumes.now) vid)) }
+pub fn volume_read(volumes: &[u8], vid: VolumeId) -> Result<Volume, Refusal>
+    ensures { read_says result ≡ lent (volumes_ok volumes.now) (volume_read (volumes_in volumes.now) vid) }
 {
     if !volumes_formed(volumes) {
-        return no_volume(20);
+        return Err(Refusal::TableForm);
     }
     let Ok(i) = find_volume(volumes, vid) else {
-        return no_volume(4);
+        return Err(Refusal::NoVolume);
     };
-    let volume = volume_at(volumes, i);
-    VolumeAnswer { code: 0, volume }
+    Ok(volume_at(volumes, i))
 }
 
 // Whether a volume is stored: 20.
@@ -60,29 +44,29 @@ pub fn volume_exists(volumes: &[u8], vid: VolumeId) -> Result<bool, Refusal>
 }
 
 // A volume deleted; where there is none, nothing is: 20.
-pub fn volume_delete(volumes: &mut [u8], vid: VolumeId) -> u32
-    ensures value { result ≡ code (lent (volumes_ok volumes.old) (volume_delete (volumes_in volumes.old) vid)) }
+pub fn volume_delete(volumes: &mut [u8], vid: VolumeId) -> Result<(), Refusal>
+    ensures value { code_of result ≡ code (lent (volumes_ok volumes.old) (volume_delete (volumes_in volumes.old) vid)) }
     ensures volumes_after { volumes.new ≡ after volume_bytes (λ t. t) volumes.old (lent (volumes_ok volumes.old) (volume_delete (volumes_in volumes.old) vid)) }
 {
     if !volumes_formed(volumes) {
-        return 20;
+        return Err(Refusal::TableForm);
     }
     remove_volume(volumes, vid);
-    0
+    Ok(())
 }
 
 // A volume's pending commit dropped; where none is pending, nothing is: 20, 4.
-pub fn drop_pending(volumes: &mut [u8], vid: VolumeId) -> u32
-    ensures value { result ≡ code (lent (volumes_ok volumes.old) (drop_pending (volumes_in volumes.old) vid)) }
+pub fn drop_pending(volumes: &mut [u8], vid: VolumeId) -> Result<(), Refusal>
+    ensures value { code_of result ≡ code (lent (volumes_ok volumes.old) (drop_pending (volumes_in volumes.old) vid)) }
     ensures volumes_after { volumes.new ≡ after volume_bytes (λ t. t) volumes.old (lent (volumes_ok volumes.old) (drop_pending (volumes_in volumes.old) vid)) }
 {
     if !volumes_formed(volumes) {
-        return 20;
+        return Err(Refusal::TableForm);
     }
     let Ok(i) = find_volume(volumes, vid) else {
-        return 4;
+        return Err(Refusal::NoVolume);
     };
     let v = volume_at(volumes, i);
     store_volume(volumes, i, v.with_pending_commit(None));
-    0
+    Ok(())
 }

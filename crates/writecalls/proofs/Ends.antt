@@ -1,18 +1,20 @@
 -- The two ends of writing a commit. A number other than 0 is a refusal, which leaves the bytes as found; under 0 every check has passed, and the tables of the write
 -- are laid over them.
-use Rattle.std.proofs.Common.{◌≡◌, ℕ, Bool, true, eqb, List, length, sym, refl, ap, ◌∙◌, arith, eq-eqb, eqb-true}
+use Rattle.std.proofs.Common.{◌≡◌, ℕ, Bool, true, eqb, List, length, Result, Ok, Err, sym, refl, ap, ◌∙◌, arith, eq-eqb, eqb-true}
 use Rattle.octets.specs.Bytes.{part}
 use Rattle.basics.specs.Answers.{Answer, refused, done, code, ask, ◌>>◌}
+use Rattle.basics.specs.Refusals.{code_of}
+use Rattle.basics.specs.declared.refusal.Refusal.{Refusal}
 use Rattle.rules.specs.Forms.{commit_form}
 use Rattle.rules.specs.Arguments.{commit_lsns}
 use Rattle.rules.specs.Write.{Logs, write, logs_fit}
 use Rattle.rules.proofs.TableLaws.{cases, clash}
+use Rattle.rules.proofs.AnswerLaws.{done_same, refused_done}
 use Rattle.layout.specs.Codecs.{in_form}
 use Rattle.layout.specs.Records.{commit_bytes, checkpoint_bytes, entry_bytes}
 use Rattle.layout.specs.Tables.{commits_ok, checkpoints_ok, index_ok, laid_over}
 use Rattle.layout.specs.Lent.{lent, after}
-use Rattle.writecalls.specs.declared.Plan.{Plan}
-use Rattle.writecalls.specs.Written.{IsCommit, commit_in, logs_in, logs_ok, fresh_in, planned, write_in}
+use Rattle.writecalls.specs.Written.{IsCommit, commit_in, logs_in, logs_ok, fresh_in, plan_says, planned, write_in}
 use Rattle.writecalls.proofs.Formed.{each_ok}
 use Rattle.writecalls.proofs.Plans.{bad, wrong_size, zero_lsn, not_formed, is_commit, room_decides, no_room}
 
@@ -50,22 +52,24 @@ module _ (cs ks es b : List ℕ) where
       not_0 : (k : ℕ) → k ≡ code answer → (k ≡ 0 → ⊥) → Passed
       not_0 k e z = absurd (z (e ∙ h))
 
--- ---- a plan: its number is the answer's, and under 0 all checks have passed
+-- ---- a plan: its number is the answer's, and where it has none all checks have passed
 
-number_by : (a : Answer Logs) (k : ℕ) → (planned a k).number ≡ code a
-number_by (refused n) k = refl
-number_by (done g) k = refl
+number_by : (p : Result ℕ Refusal) (a : Answer Logs) (k : ℕ) → plan_says p ≡ planned a k → code_of p ≡ code a
+number_by (Err r) (refused n) k e = ap code e
+number_by (Err r) (done g) k e = refused_done e
+number_by (Ok m) (refused n) k e = refused_done (sym e)
+number_by (Ok m) (done g) k e = refl
 
-module _ (cs ks es b : List ℕ) (p : Plan) (e : p ≡ planned (answer cs ks es b) (fresh_in es (commit_in b))) where
-  pub number_is : p.number ≡ code (answer cs ks es b)
-  number_is = ap (λ (x : Plan). x.number) e ∙ number_by (answer cs ks es b) (fresh_in es (commit_in b))
+module _ (cs ks es b : List ℕ) (p : Result ℕ Refusal) (e : plan_says p ≡ planned (answer cs ks es b) (fresh_in es (commit_in b))) where
+  pub number_is : code_of p ≡ code (answer cs ks es b)
+  number_is = number_by p (answer cs ks es b) (fresh_in es (commit_in b)) e
 
-  module _ (z : p.number ≡ 0) where
+  module _ (n : ℕ) (z : p ≡ Ok n) where
     pub plan_passed : Passed cs ks es b
-    plan_passed = passed cs ks es b (sym number_is ∙ z)
+    plan_passed = passed cs ks es b (sym number_is ∙ ap code_of z)
 
-    pub fresh_passed : p.fresh ≡ fresh_in es (commit_in b)
-    fresh_passed = ap (λ (x : Plan). x.fresh) e ∙ ap (λ (a : Answer Logs). (planned a (fresh_in es (commit_in b))).fresh) plan_passed.answers
+    pub fresh_passed : n ≡ fresh_in es (commit_in b)
+    fresh_passed = done_same (ap plan_says (sym z) ∙ e ∙ ap (λ (a : Answer Logs). planned a (fresh_in es (commit_in b))) plan_passed.answers)
 
 -- ---- what a call leaves
 

@@ -11,7 +11,6 @@ use Rattle.layout.specs.Codecs.{in_form}
 use Rattle.layout.specs.Records.{commit_bytes}
 use Rattle.layout.specs.Lent.{lent}
 use Rattle.layout.proofs.LentLaws.{lent_no, lent_yes}
-use Rattle.writecalls.specs.declared.Plan.{Plan}
 use Rattle.writecalls.specs.Written.{IsCommit, commit_in, logs_in, logs_ok, fresh_in, roomed, planned, write_in}
 use Rattle.writecalls.proofs.Formed.{logs_formed_lem}
 use Rattle.writecalls.proofs.Rows.{is_form}
@@ -86,10 +85,10 @@ module _ (cs ks es b : List ℕ) where
           room_plans = ap (λ (a : Answer Logs). planned a (fresh_in es (commit_in b))) (sym room_decides)
 
 -- the plan of a number other than 0
-refusal : (a : Answer Logs) (n k : ℕ) → n ≡ code a → (n ≡ 0 → ⊥) → ◌≡◌ {A = Plan} (record { number = n; fresh = 0 }) (planned a k)
-refusal (refused m) n k e z = ap (λ (x : ℕ). record { number = x; fresh = 0 }) e
+refusal : (a : Answer Logs) (n k : ℕ) → n ≡ code a → (n ≡ 0 → ⊥) → refused n ≡ planned a k
+refusal (refused m) n k e z = ap (λ (x : ℕ). refused x) e
 refusal (done g) n k e z = absurd (z e)
 
 module _ (cs ks es b : List ℕ) where
-  pub refused_by : (n : ℕ) → n ≡ code (answer cs ks es b) → (n ≡ 0 → ⊥) → ◌≡◌ {A = Plan} (record { number = n; fresh = 0 }) (planned (answer cs ks es b) (fresh_in es (commit_in b)))
+  pub refused_by : (n : ℕ) → n ≡ code (answer cs ks es b) → (n ≡ 0 → ⊥) → refused n ≡ planned (answer cs ks es b) (fresh_in es (commit_in b))
   refused_by n e z = refusal (answer cs ks es b) n (fresh_in es (commit_in b)) e z

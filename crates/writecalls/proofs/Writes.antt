@@ -1,12 +1,14 @@
 -- A commit written is three stores, one in each table: room for it is room for the three, asked one after another, and each table's bytes are its own store's.
-use Rattle.std.proofs.Common.{◌≡◌, ℕ, ◌+◌, Bool, true, false, ◌&&◌, eqb, List, map, sym, refl, ap, ◌∙◌, ap₂}
-use Rattle.basics.specs.Answers.{done, ask, ◌>>◌}
+use Rattle.std.proofs.Common.{◌≡◌, ℕ, ◌+◌, Bool, true, false, ◌&&◌, List, map, Result, Ok, Err, is_ok, sym, refl, ap, ◌∙◌, ap₂}
+use Rattle.basics.specs.Answers.{Answer, refused, done, ask, ◌>>◌}
+use Rattle.basics.specs.declared.refusal.Refusal.{Refusal}
 use Rattle.basics.specs.Orders.{log_lsn, log_page_lsn}
 use Rattle.rules.specs.Records.{commit_key, checkpoint_key, entry_key}
 use Rattle.rules.specs.Forms.{commit_form}
 use Rattle.rules.specs.Tables.{fits, store, store_all}
 use Rattle.rules.specs.Write.{Logs, checkpoints_of, entries_of, write, logs_fit}
 use Rattle.rules.proofs.TableLaws.{and_fst, and_snd}
+use Rattle.rules.proofs.AnswerLaws.{refused_done}
 use Rattle.table.specs.Records as T
 use Rattle.table.specs.Table.{count_of, recs, laid, holds}
 use Rattle.table.specs.Table as B
@@ -15,8 +17,7 @@ use Rattle.layout.specs.Tables.{commits_in, commits_ok, checkpoints_in, index_in
 use Rattle.layout.proofs.HoldLaws.{in_form_lem}
 use Rattle.rows.proofs.Stores.{put_fits, put_laid}
 use Rattle.rows.proofs.Tables.{commits, index}
-use Rattle.writecalls.specs.declared.Plan.{Plan}
-use Rattle.writecalls.specs.Written.{IsCommit, commit_in, logs_in, fresh_in, roomed, planned}
+use Rattle.writecalls.specs.Written.{IsCommit, commit_in, logs_in, fresh_in, roomed, plan_says, planned}
 use Rattle.rules.proofs.Write.{entries_form}
 use Rattle.rows.proofs.News.{rows_room}
 use Rattle.writecalls.proofs.Rows.{is_form}
@@ -75,24 +76,27 @@ module _ (cs ks es b : List ℕ) where
   abbrev made : Logs
   made = write (logs_in cs ks es) (commit_in b)
 
-  plan_by : Bool → ℕ → Plan
+  plan_by : Bool → ℕ → Answer ℕ
   plan_by x k = planned (ask x 19 >> done made) k
 
-  pub plan_full : fit ≡ false → (k : ℕ) → ◌≡◌ {A = Plan} (record { number = 19; fresh = 0 }) (planned (roomed made) k)
+  pub plan_full : fit ≡ false → (k : ℕ) → refused 19 ≡ planned (roomed made) k
   unfolding plan_by
   plan_full e k = ap (λ (x : Bool). plan_by x k) (sym e)
 
-  pub plan_room : fit ≡ true → (k n : ℕ) → n ≡ k → ◌≡◌ {A = Plan} (record { number = 0; fresh = n }) (planned (roomed made) k)
+  pub plan_room : fit ≡ true → (k n : ℕ) → n ≡ k → done n ≡ planned (roomed made) k
   unfolding plan_by
   plan_room e k n h = ap (plan_by true) h ∙ ap (λ (x : Bool). plan_by x k) (sym e)
 
-  pub room_is : (k : ℕ) → eqb (planned (roomed made) k).number 0 ≡ fit
+  -- and a plan that it is has no refusal exactly where there is room
+  pub room_is : (p : Result ℕ Refusal) (k : ℕ) → plan_says p ≡ planned (roomed made) k → is_ok p ≡ fit
   unfolding plan_by
-  room_is k = go fit
+  room_is p k e = go p fit e
     where
-      go : (x : Bool) → eqb (plan_by x k).number 0 ≡ x
-      go true = refl
-      go false = refl
+      go : (q : Result ℕ Refusal) (x : Bool) → plan_says q ≡ plan_by x k → is_ok q ≡ x
+      go (Ok n) true h = refl
+      go (Ok n) false h = refused_done (sym h)
+      go (Err r) true h = refused_done h
+      go (Err r) false h = refl
 
   -- where there is room for all, there is for each
   module _ (all : fit ≡ true) where

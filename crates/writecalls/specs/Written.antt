@@ -1,6 +1,8 @@
 -- A commit given as bytes, and the three tables that it is written to.
-use Rattle.std.specs.Prelude.{◌≡◌, ℕ, Bool, true, ◌&&◌, List, map, length, ◌==◌}
+use Rattle.std.specs.Prelude.{◌≡◌, ℕ, Bool, true, ◌&&◌, List, map, length, ◌==◌, Result, Ok, Err}
 use Rattle.basics.specs.Answers.{Answer, refused, done, ask, ◌>>=◌, ◌>>◌}
+use Rattle.basics.specs.Refusals.{number_of}
+use Rattle.basics.specs.declared.refusal.Refusal.{Refusal}
 use Rattle.rules.specs.Records.{Commit}
 use Rattle.rules.specs.Forms.{commit_form}
 use Rattle.rules.specs.Arguments.{commit_lsns}
@@ -10,7 +12,6 @@ use Rattle.batch.specs.Batch.{news}
 use Rattle.layout.specs.Codecs.{in_form}
 use Rattle.layout.specs.Records.{commit_bytes, entry_bytes}
 use Rattle.layout.specs.Tables.{commits_in, commits_ok, checkpoints_in, checkpoints_ok, index_in, index_ok}
-use Rattle.writecalls.specs.declared.Plan.{Plan}
 
 -- bytes are those of a commit in form
 abbrev pub IsCommit : List ℕ → Type 0
@@ -48,7 +49,12 @@ roomed g = do
   ask (logs_fit g) 19
   done g
 
--- the plan of an answer: its number, and under 0 how many index entries are new
-abbrev pub planned : Answer Logs → ℕ → Plan
-planned (refused k) n = record { number = k; fresh = 0 }
-planned (done g) n = record { number = 0; fresh = n }
+-- what a plan says: a refusal, or how many index entries are new
+abbrev pub plan_says : Result ℕ Refusal → Answer ℕ
+plan_says (Err r) = refused (number_of r)
+plan_says (Ok n) = done n
+
+-- the plan of an answer: its refusal, or that n index entries are new
+abbrev pub planned : Answer Logs → ℕ → Answer ℕ
+planned (refused k) n = refused k
+planned (done g) n = done n

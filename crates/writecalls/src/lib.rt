@@ -4,6 +4,7 @@
 
 ghost use Rattle.std.specs.Prelude.{◌≡◌, true};
 ghost use Rattle.basics.specs.Answers.{code};
+ghost use Rattle.basics.specs.Refusals.{code_of};
 ghost use Rattle.basics.specs.Orders.{log_lsn, log_page_lsn};
 ghost use Rattle.layout.specs.Records.{checkpoint_bytes, entry_bytes, commit_bytes};
 ghost use Rattle.layout.specs.Tables.{commits_in, commits_ok, checkpoints_in, checkpoints_ok, index_in, index_ok, laid_over};
@@ -12,8 +13,9 @@ ghost use Rattle.rules.specs.Records.{commit_key, checkpoint_key, entry_key};
 ghost use Rattle.rules.specs.Tables.{fits, store, store_all};
 ghost use Rattle.rules.specs.Write.{pages_of, checkpoints_of, entries_of, Logs, write, logs_fit};
 ghost use Rattle.setbytes.specs.Laid.{set_laid};
-ghost use Rattle.writecalls.specs.Written.{IsCommit, commit_in, logs_in, logs_ok, fresh_in, roomed, planned, write_in};
+ghost use Rattle.writecalls.specs.Written.{IsCommit, commit_in, logs_in, logs_ok, fresh_in, roomed, plan_says, planned, write_in};
 
+use basics::refusal::Refusal;
 use commitbytes::{commit_form, commit_lsns_ok, fields, lsns};
 use commits::commits_formed;
 use entries::{checkpoints_formed, index_formed};
@@ -21,13 +23,6 @@ use layout::{CHECKPOINT, COMMIT, COMMIT_KEY, ENTRY};
 use octets::load8;
 use pageset::{PageSet, sets};
 use setbytes::set_read;
-
-// What a write is to answer: its number, and under 0 how many of the commit's index entries are new.
-#[derive(Clone, Copy)]
-pub struct Plan {
-    pub number: u32,
-    pub fresh: usize,
-}
 
 // Where a commit's bytes say whether it has a segment, where that segment's pages stand, and where the listed checkpoints do.
 const SEGMENT: usize = 62;
@@ -116,30 +111,23 @@ pub fn put_entries(t: &mut [u8], c: &[u8], fresh: usize)
     indexing::put_entries(t, log, lsn, set, fresh);
 }
 
-// The plan of a refusal.
-fn refused_plan(number: u32) -> Plan
-    ensures { result ≡ record { number = number; fresh = 0 } }
-{
-    Plan { number, fresh: 0 }
-}
-
-// The plan by room alone, for all that a commit adds to the three tables: 19, or 0 and the number of new index entries.
-fn room_plan(commits: &[u8], checkpoints: &[u8], index: &[u8], c: &[u8]) -> Plan
+// The plan by room alone, for all that a commit adds to the three tables: 19, or the number of new index entries.
+fn room_plan(commits: &[u8], checkpoints: &[u8], index: &[u8], c: &[u8]) -> Result<usize, Refusal>
     requires commits_value { (commits_ok commits.now ≡ true) × (checkpoints_ok checkpoints.now ≡ true) × (index_ok index.now ≡ true) }
     requires commit { IsCommit c.now }
-    ensures { result ≡ planned (roomed (write (logs_in commits.now checkpoints.now index.now) (commit_in c.now))) (fresh_in index.now (commit_in c.now)) }
+    ensures { plan_says result ≡ planned (roomed (write (logs_in commits.now checkpoints.now index.now) (commit_in c.now))) (fresh_in index.now (commit_in c.now)) }
 {
     if !room_for_commit(commits, c) {
-        return refused_plan(19);
+        return Err(Refusal::NoRoom);
     }
     if !room_for_checkpoints(checkpoints, c) {
-        return refused_plan(19);
+        return Err(Refusal::NoRoom);
     }
     let fresh = fresh_entries(index, c);
     if !table::room_for(index, ENTRY, fresh) {
-        return refused_plan(19);
+        return Err(Refusal::NoRoom);
     }
-    Plan { number: 0, fresh }
+    Ok(fresh)
 }
 
 // Whether the three tables have room for all that a commit adds.
@@ -148,7 +136,7 @@ pub fn write_room(commits: &[u8], checkpoints: &[u8], index: &[u8], c: &[u8]) ->
     requires commit { IsCommit c.now }
     ensures { result ≡ logs_fit (write (logs_in commits.now checkpoints.now index.now) (commit_in c.now)) }
 {
-    room_plan(commits, checkpoints, index, c).number == 0
+    room_plan(commits, checkpoints, index, c).is_ok()
 }
 
 // A commit written to the three tables, which have room for all that it adds; `fresh` of its index entries are new.
@@ -185,37 +173,47 @@ pub fn write_stored(commits: &mut [u8], checkpoints: &mut [u8], index: &mut [u8]
     write_fresh(commits, checkpoints, index, c, fresh);
 }
 
-// The plan of a write, with nothing stored: 20, 3 for another number of bytes, 1, 3, 19, or 0 and the number of new index entries.
-pub fn write_plan(commits: &[u8], checkpoints: &[u8], index: &[u8], c: &[u8]) -> Plan
-    ensures { result ≡ planned (lent (logs_ok commits.now checkpoints.now index.now) (write_in (logs_in commits.now checkpoints.now index.now) c.now)) (fresh_in index.now (commit_in c.now)) }
+// The plan of a write, with nothing stored: 20, 3 for another number of bytes, 1, 3, 19, or the number of new index entries.
+pub fn write_plan(
+    commits: &[u8],
+    checkpoints: &[u8],
+    index: &[u8],
+    c: &[u8],
+) -> Result<usize, Refusal>
+    ensures { plan_says result ≡ planned (lent (logs_ok commits.now checkpoints.now index.now) (write_in (logs_in commits.now checkpoints.now index.now) c.now)) (fresh_in index.now (commit_in c.now)) }
 {
     if !logs_formed(commits, checkpoints, index) {
-        return refused_plan(20);
+        return Err(Refusal::TableForm);
     }
     if c.len() != COMMIT {
-        return refused_plan(3);
+        return Err(Refusal::Form);
     }
     if !commit_lsns_ok(c, 0) {
-        return refused_plan(1);
+        return Err(Refusal::Zero);
     }
     if !commit_form(c, 0) {
-        return refused_plan(3);
+        return Err(Refusal::Form);
     }
     room_plan(commits, checkpoints, index, c)
 }
 
 // A commit written, all or nothing: it replaces any at its log and LSN, and adds its checkpoints and an index entry for each of its pages: 20, 3 for another number of bytes, 1, 3, 19.
-pub fn write_commit(commits: &mut [u8], checkpoints: &mut [u8], index: &mut [u8], c: &[u8]) -> u32
-    ensures value { result ≡ code (lent (logs_ok commits.old checkpoints.old index.old) (write_in (logs_in commits.old checkpoints.old index.old) c.now)) }
+pub fn write_commit(
+    commits: &mut [u8],
+    checkpoints: &mut [u8],
+    index: &mut [u8],
+    c: &[u8],
+) -> Result<(), Refusal>
+    ensures value { code_of result ≡ code (lent (logs_ok commits.old checkpoints.old index.old) (write_in (logs_in commits.old checkpoints.old index.old) c.now)) }
     ensures commits_after { commits.new ≡ after commit_bytes (λ (g : Logs). g.commits) commits.old (lent (logs_ok commits.old checkpoints.old index.old) (write_in (logs_in commits.old checkpoints.old index.old) c.now)) }
     ensures checkpoints_after { checkpoints.new ≡ after checkpoint_bytes (λ (g : Logs). g.checkpoints) checkpoints.old (lent (logs_ok commits.old checkpoints.old index.old) (write_in (logs_in commits.old checkpoints.old index.old) c.now)) }
     ensures index_after { index.new ≡ after entry_bytes (λ (g : Logs). g.index) index.old (lent (logs_ok commits.old checkpoints.old index.old) (write_in (logs_in commits.old checkpoints.old index.old) c.now)) }
 {
-    let plan = write_plan(commits, checkpoints, index, c);
-    let number = plan.number;
-    if number != 0 {
-        return number;
+    match write_plan(commits, checkpoints, index, c) {
+        Err(refusal) => Err(refusal),
+        Ok(fresh) => {
+            write_fresh(commits, checkpoints, index, c, fresh);
+            Ok(())
+        }
     }
-    write_fresh(commits, checkpoints, index, c, plan.fresh);
-    0
 }

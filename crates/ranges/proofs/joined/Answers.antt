@@ -3,7 +3,7 @@ use Rattle.ranges.proofs.JoinLaws.{joined_over, joined_set}
 use Rattle.ranges.proofs.joined.Goals as goal
 
 pub returns-then-all-ne0 : goal.returns-then-all-ne0
-returns-then-all-ne0 c = joined_over c.args.left c.args.right c.requires.pages_value c.requires.pages_value_2 _ c.union-all.ensures c.if-all-ne0.true _ c.no_range.ensures
+returns-then-all-ne0 c = joined_over c.args.left c.args.right c.requires.pages_value c.requires.pages_value_2 _ c.union-all.ensures c.if-all-ne0.true
 
 pub returns : goal.returns
-returns c = joined_set c.args.left c.args.right c.requires.pages_value c.requires.pages_value_2 _ c.union-all.ensures c.if-all-ne0.false _ c.found_range.ensures
+returns c = joined_set c.args.left c.args.right c.requires.pages_value c.requires.pages_value_2 _ c.union-all.ensures c.if-all-ne0.false

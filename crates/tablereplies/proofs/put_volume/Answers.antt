@@ -1,26 +1,35 @@
 -- The tests are those of the definition, in its order; a volume's bytes fill the lent place. Assumes nothing.
-use Rattle.std.proofs.Common.{ℕ, List, refl, ap, ◌∙◌}
-use Rattle.octets.specs.Guards.{if_eq, if_ne}
-use Rattle.arguments.specs.Replies.{given}
+use Rattle.std.proofs.Common.{ℕ, List, Result, sym, ap, ◌∙◌}
+use Rattle.octets.specs.Guards.{if_true_of, if_false_of}
+use Rattle.basics.specs.declared.refusal.Refusal.{Refusal}
+use Rattle.layout.specs.Records.{volume_bytes}
+use Rattle.volume.specs.declared.volume.Volume.{Volume}
+use Rattle.volumecalls.specs.Says.{read_says}
+use Rattle.arguments.specs.Replies.{given, value}
+use Rattle.arguments.specs.declared.Reply.{Reply}
 use Rattle.tablereplies.specs.Records.{volume_put}
+use Rattle.tablereplies.proofs.ReplyLaws.{unplaced, in_place}
 use Rattle.tablereplies.proofs.put_volume.Goals as goal
 
-pub returns-then-code-eq20 : goal.returns-then-code-eq20
+pub returns-then-is_unformed : goal.returns-then-is_unformed
 unfolding volume_put
-returns-then-code-eq20 c = if_eq _ _ _ _ 20 c.if-code-eq20.true refl
+returns-then-is_unformed c = if_true_of _ _ _ _ _ c.is_unformed.ensures c.if-is_unformed.true (ap (λ (r : Reply). (r, c.args.out.now)) c.refused.ensures)
 
 pub returns-then-out-ne-VOLUME : goal.returns-then-out-ne-VOLUME
 unfolding volume_put
-returns-then-out-ne-VOLUME c = if_ne _ _ _ _ 20 c.if-code-eq20.false (if_ne _ _ _ _ 117 c.if-out-ne-VOLUME.true refl)
+returns-then-out-ne-VOLUME c = if_false_of _ _ _ _ _ c.is_unformed.ensures c.if-is_unformed.false (ap (λ (r : Reply). (r, c.args.out.now)) c.refused-then-out-ne-VOLUME.ensures ∙ unplaced c.args.out.now _ c.if-out-ne-VOLUME.true)
 
-pub returns-then-code-ne0 : goal.returns-then-code-ne0
+pub returns-in-Err : goal.returns-in-Err
 unfolding volume_put
-returns-then-code-ne0 c = if_ne _ _ _ _ 20 c.if-code-eq20.false (if_eq _ _ _ _ 117 c.if-out-ne-VOLUME.false (if_ne _ _ _ _ 0 c.if-code-ne0.true refl))
+returns-in-Err c =
+    let put = ap (λ (a : Result Volume Refusal). value volume_bytes.spell c.args.out.now (read_says a)) (sym c.in-Err.is) in
+    if_false_of _ _ _ _ _ c.is_unformed.ensures c.if-is_unformed.false (ap (λ (r : Reply). (r, c.args.out.now)) c.refused-in-Err.ensures ∙ put ∙ in_place c.args.out.now _ c.if-out-ne-VOLUME.false)
 
 pub put_out-requires : goal.put_out-requires
 put_out-requires c = c.if-out-ne-VOLUME.false
 
-pub returns : goal.returns
+pub returns-in-Ok : goal.returns-in-Ok
 unfolding volume_put
-returns c =
-    ap (λ (b : List ℕ). (given, b)) c.put_out.ensures ∙ if_ne _ _ _ _ 20 c.if-code-eq20.false (if_eq _ _ _ _ 117 c.if-out-ne-VOLUME.false (if_eq _ _ _ _ 0 c.if-code-ne0.false refl))
+returns-in-Ok c =
+    let put = ap (λ (a : Result Volume Refusal). value volume_bytes.spell c.args.out.now (read_says a)) (sym c.in-Ok.is) in
+    if_false_of _ _ _ _ _ c.is_unformed.ensures c.if-is_unformed.false (ap (λ (b : List ℕ). (given, b)) c.put_out.ensures ∙ put ∙ in_place c.args.out.now _ c.if-out-ne-VOLUME.false)

@@ -7,22 +7,22 @@ use Rattle.writecalls.proofs.write_plan.Goals as goal
 pub returns-then-not-logs_formed : goal.returns-then-not-logs_formed
 returns-then-not-logs_formed c =
     let a = c.args in
-    c.refused_plan.ensures ∙ refused_by a.commits.now a.checkpoints.now a.index.now a.c.now 20 (bad a.commits.now a.checkpoints.now a.index.now a.c.now (sym c.logs_formed.ensures ∙ c.if-not-logs_formed.true)) (λ z. omega arith)
+    refused_by a.commits.now a.checkpoints.now a.index.now a.c.now 20 (bad a.commits.now a.checkpoints.now a.index.now a.c.now (sym c.logs_formed.ensures ∙ c.if-not-logs_formed.true)) (λ z. omega arith)
 
 pub returns-then-c-ne-COMMIT : goal.returns-then-c-ne-COMMIT
 returns-then-c-ne-COMMIT c =
     let a = c.args in
-    c.refused_plan-then-c-ne-COMMIT.ensures ∙ refused_by a.commits.now a.checkpoints.now a.index.now a.c.now 3 (wrong_size a.commits.now a.checkpoints.now a.index.now a.c.now (sym c.logs_formed.ensures ∙ c.if-not-logs_formed.false) c.if-c-ne-COMMIT.true) (λ z. omega arith)
+    refused_by a.commits.now a.checkpoints.now a.index.now a.c.now 3 (wrong_size a.commits.now a.checkpoints.now a.index.now a.c.now (sym c.logs_formed.ensures ∙ c.if-not-logs_formed.false) c.if-c-ne-COMMIT.true) (λ z. omega arith)
 
 pub returns-then-not-commit_lsns_ok : goal.returns-then-not-commit_lsns_ok
 returns-then-not-commit_lsns_ok c =
     let a = c.args in
-    c.refused_plan-then-not-commit_lsns_ok.ensures ∙ refused_by a.commits.now a.checkpoints.now a.index.now a.c.now 1 (zero_lsn a.commits.now a.checkpoints.now a.index.now a.c.now (sym c.logs_formed.ensures ∙ c.if-not-logs_formed.false) c.if-c-ne-COMMIT.false (sym c.commit_lsns_ok.ensures ∙ c.if-not-commit_lsns_ok.true)) (λ z. omega arith)
+    refused_by a.commits.now a.checkpoints.now a.index.now a.c.now 1 (zero_lsn a.commits.now a.checkpoints.now a.index.now a.c.now (sym c.logs_formed.ensures ∙ c.if-not-logs_formed.false) c.if-c-ne-COMMIT.false (sym c.commit_lsns_ok.ensures ∙ c.if-not-commit_lsns_ok.true)) (λ z. omega arith)
 
 pub returns-then-not-commit_form : goal.returns-then-not-commit_form
 returns-then-not-commit_form c =
     let a = c.args in
-    c.refused_plan-then-not-commit_form.ensures ∙ refused_by a.commits.now a.checkpoints.now a.index.now a.c.now 3 (not_formed a.commits.now a.checkpoints.now a.index.now a.c.now (sym c.logs_formed.ensures ∙ c.if-not-logs_formed.false) c.if-c-ne-COMMIT.false (sym c.commit_lsns_ok.ensures ∙ c.if-not-commit_lsns_ok.false) (sym c.commit_form.ensures ∙ c.if-not-commit_form.true)) (λ z. omega arith)
+    refused_by a.commits.now a.checkpoints.now a.index.now a.c.now 3 (not_formed a.commits.now a.checkpoints.now a.index.now a.c.now (sym c.logs_formed.ensures ∙ c.if-not-logs_formed.false) c.if-c-ne-COMMIT.false (sym c.commit_lsns_ok.ensures ∙ c.if-not-commit_lsns_ok.false) (sym c.commit_form.ensures ∙ c.if-not-commit_form.true)) (λ z. omega arith)
 
 pub room_plan-requires : goal.room_plan-requires
 room_plan-requires c = let a = c.args in

@@ -5,7 +5,7 @@ use Rattle.boundary.proofs.pushcall.sigatuda_open.Goals as goal
 
 pub returns : goal.returns
 returns c = record {
-  value = c.numbered.ensures ∙ ap numbered_reply c.open.ensures.value;
+  value = c.by_number.ensures ∙ ap numbered_reply c.open.ensures.value;
   volumes_after = c.open.ensures.volumes_after;
   out_after = c.open.ensures.out_after;
 }

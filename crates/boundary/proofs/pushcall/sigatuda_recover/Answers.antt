@@ -5,7 +5,7 @@ use Rattle.boundary.proofs.pushcall.sigatuda_recover.Goals as goal
 
 pub returns : goal.returns
 returns c = record {
-  value = c.numbered.ensures ∙ ap numbered_reply c.recover.ensures.value;
+  value = c.by_number.ensures ∙ ap numbered_reply c.recover.ensures.value;
   volumes_after = c.recover.ensures.volumes_after;
   commits_after = c.recover.ensures.commits_after;
   checkpoints_after = c.recover.ensures.checkpoints_after;

@@ -5,7 +5,7 @@ use Rattle.boundary.proofs.pushcall.sigatuda_success.Goals as goal
 
 pub returns : goal.returns
 returns c = record {
-  value = c.numbered.ensures ∙ ap numbered_reply c.success.ensures.value;
+  value = c.by_number.ensures ∙ ap numbered_reply c.success.ensures.value;
   volumes_after = c.success.ensures.volumes_after;
   commits_after = c.success.ensures.commits_after;
   checkpoints_after = c.success.ensures.checkpoints_after;

@@ -3,11 +3,11 @@ use Rattle.std.proofs.Common.{ap, ◌∙◌}
 use Rattle.commit.specs.declared.SegmentIdx.{SegmentIdx}
 use Rattle.frames.specs.Rules.{frame_rule}
 use Rattle.segmentargs.specs.Segments.{range_left}
-use Rattle.segmentargs.proofs.SegmentLaws.{left_range, tells_normal, frame_early}
+use Rattle.segmentargs.proofs.SegmentLaws.{left_range, frame_early}
 use Rattle.boundary.proofs.segments.sigatuda_frame_of_page.Goals as goal
 
 pub put_range-requires : goal.put_range-requires
-put_range-requires c = tells_normal c.frame_for.result (frame_rule c.segment_arg.result c.args.page) c.frame_for.ensures
+put_range-requires c = c.frame_for.ensures.form
 
 pub returns : goal.returns
 returns c =

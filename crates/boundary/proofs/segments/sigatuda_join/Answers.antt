@@ -1,12 +1,11 @@
 -- The arguments are read, the call by value answers the rule on them, and its answer is put in bytes. Assumes nothing.
 use Rattle.std.proofs.Common.{◌∙◌, ap₂}
-use Rattle.ranges.specs.Rules.{join_rule}
 use Rattle.segmentargs.specs.Segments.{join_left}
-use Rattle.segmentargs.proofs.SegmentLaws.{left_join, tells_normal}
+use Rattle.segmentargs.proofs.SegmentLaws.{left_join}
 use Rattle.boundary.proofs.segments.sigatuda_join.Goals as goal
 
 pub put_range-requires : goal.put_range-requires
-put_range-requires c = tells_normal c.join.result (join_rule c.range_arg.result c.range_arg-2.result) c.join.ensures
+put_range-requires c = c.join.ensures.form
 
 pub returns : goal.returns
 returns c =

@@ -4,4 +4,4 @@ use Rattle.arguments.specs.Replies.{numbered_reply}
 use Rattle.boundary.proofs.synccall.sigatuda_sync.Goals as goal
 
 pub returns : goal.returns
-returns c = record { value = c.numbered.ensures ∙ ap numbered_reply (c.number_or_zero.ensures ∙ c.sync.ensures.value); volumes_after = c.sync.ensures.volumes_after }
+returns c = record { value = c.numbered.ensures ∙ ap numbered_reply c.sync.ensures.value; volumes_after = c.sync.ensures.volumes_after }
