@@ -1,29 +1,29 @@
 -- Snapshots across the boundary: the bytes of an argument and the value that they become, an answer by value and what is left of it. What is read of bytes has
 -- at most 8 ranges, so the value is in form, and the call by value says 1, 2 and the ninth range's 3; the form of the bytes is 3 in the same turn. Assumes nothing.
-use Rattle.std.proofs.Common.{◌≡◌, ℕ, zero, suc, ◌+◌, ◌-◌, ◌*◌, ◌≤◌, min, Bool, true, false, cond, ◌&&◌, eqb, ltb, leb, List, [], ◌∷◌, ◌++◌, map, length, replicate, sym, refl, ap, ◌∙◌, ap₂, arith, length-append, drop_at, ltb-true, eq-eqb, ne_eqb, le-leb}
-use mathlib.Core.Option.{Option, none, some}
+use Rattle.std.proofs.Common.{◌≡◌, ℕ, zero, suc, ◌+◌, ◌-◌, ◌*◌, ◌≤◌, min, Bool, true, false, cond, ◌&&◌, eqb, ltb, leb, List, [], ◌∷◌, ◌++◌, map, length, replicate, sym, refl, ap, ◌∙◌, ap₂, arith, length-append, drop_at, ltb-true, eq-eqb, ne_eqb, le-leb, Result, Ok, Err}
 use lib.ListN.{length-map}
 use Rattle.octets.specs.Bytes.{be, part}
 use Rattle.octets.specs.Order.{lex, order, then_by}
 use Rattle.basics.specs.Answers.{Answer, refused, done, ask, code, ◌>>◌}
+use Rattle.basics.specs.Refusals.{number_of, code_of}
+use Rattle.basics.specs.declared.refusal.Refusal.{Refusal}
 use Rattle.rules.specs.Lists.{all}
 use Rattle.rules.specs.Records.{Range, Snapshot}
 use Rattle.rules.specs.Arguments.{range_lsns, range_order, snapshot_lsns, snapshot_order, snapshot_new, snapshot_append}
+use Rattle.rules.proofs.AnswerLaws.{done_same, refused_done}
 use Rattle.pageset.proofs.FormLaws.{and_both}
-use Rattle.volume.specs.declared.snapshot.SnapshotAnswer.{SnapshotAnswer}
 use Rattle.volume.specs.Snapshots as Snap
 use Rattle.volume.specs.declared.snapshot.Snapshot as declared
 use Rattle.volume.specs.declared.snapshot.LogRange.{LogRange}
-use Rattle.volume.proofs.SnapshotLaws.{laid_says, in_form_lem}
+use Rattle.volume.proofs.SnapshotLaws.{laid_says, in_form_lem, laid_refused, laid_done}
 use Rattle.table.specs.Table.{runs}
 use Rattle.table.proofs.Rows.{length_runs}
 use Rattle.layout.specs.Codecs.{spelled}
 use Rattle.layout.specs.Values.{range_bytes, snapshot_bytes}
 use Rattle.arguments.specs.declared.Reply.{Reply}
 use Rattle.arguments.specs.Replies.{none_under, value, given}
-use Rattle.arguments.specs.Snapshots.{snapshot_in, snapshot_formed, append_in, head_in, head_says, snapshot_left, snapshot_put, or_three}
+use Rattle.arguments.specs.Snapshots.{snapshot_in, snapshot_formed, append_in, head_in, snapshot_left, snapshot_put, or_three}
 use Rattle.arguments.proofs.ArgLaws.{whole}
-use Rattle.arguments.proofs.SetLaws.{Early}
 
 pub snapshot_size : snapshot_bytes.size ≡ 262
 unfolding snapshot_bytes range_bytes
@@ -83,59 +83,37 @@ module _ (b : List ℕ) where
   unfolding snapshot_in
   in_few = few_by (eqb (length b) snapshot_bytes.size)
 
--- ---- an answer by value, as it is put
+-- ---- a snapshot, as it is put
 
-module _ (was : List ℕ) (a : SnapshotAnswer) where
-  abbrev own : Reply × List ℕ
-  own = (none_under a.code, was)
+module _ (was : List ℕ) (s : Snapshot) where
+  left_by : (t : Bool) → eqb (length was) 262 ≡ t → value snapshot_bytes.spell was (ask t 3 >> done s) ≡ snapshot_left was (done s)
+  left_by t e = ap (λ (u : Bool). value snapshot_bytes.spell was (ask u 3 >> done s)) (sym (ap (eqb (length was)) snapshot_size ∙ e))
 
-  abbrev said : Snapshot
-  said = Snap.snapshot_says a.snapshot
+  pub put_short : (length was ≡ 262 → ⊥) → (none_under 3, was) ≡ snapshot_left was (done s)
+  put_short h = left_by false (ne_eqb (length was) 262 h)
 
-  pub put_refused : (a.code ≡ 0 → ⊥) → own ≡ snapshot_put was a
-  unfolding snapshot_put
-  put_refused h = sym (ap (λ (t : Bool). cond t (snapshot_left was (done said)) own) (ne_eqb a.code 0 h))
-
-  left_by : (t : Bool) → eqb (length was) 262 ≡ t → value snapshot_bytes.spell was (ask t 3 >> done said) ≡ snapshot_left was (done said)
-  left_by t e = ap (λ (u : Bool). value snapshot_bytes.spell was (ask u 3 >> done said)) (sym (ap (eqb (length was)) snapshot_size ∙ e))
-
-  pub put_short : a.code ≡ 0 → (length was ≡ 262 → ⊥) → (none_under 3, was) ≡ snapshot_put was a
-  unfolding snapshot_put
-  put_short e h = left_by false (ne_eqb (length was) 262 h) ∙ sym (ap (λ (t : Bool). cond t (snapshot_left was (done said)) own) (eq-eqb a.code 0 e))
-
-  pub put_whole : a.code ≡ 0 → length was ≡ 262 → (given, snapshot_bytes.spell said) ≡ snapshot_put was a
-  unfolding snapshot_put
-  put_whole e h = left_by true (eq-eqb (length was) 262 h) ∙ sym (ap (λ (t : Bool). cond t (snapshot_left was (done said)) own) (eq-eqb a.code 0 e))
+  pub put_whole : length was ≡ 262 → (given, snapshot_bytes.spell s) ≡ snapshot_left was (done s)
+  put_whole h = left_by true (eq-eqb (length was) 262 h)
 
 -- ---- what is left of an answer to a rule
 
-module _ (was : List ℕ) (a : SnapshotAnswer) where
+module _ (was : List ℕ) where
   -- a rule's answer, laid out, is left as the rule's
-  pub left_snapshot : (q : Answer Snapshot) → Early q → a ≡ Snap.laid_answer q → snapshot_put was a ≡ snapshot_left was q
-  unfolding snapshot_put
-  left_snapshot (refused n) l e =
-      let c : a.code ≡ n = ap (λ (x : SnapshotAnswer). x.code) e in
-      ap₂ (λ (t : Bool) (k : ℕ). cond t (snapshot_left was (done (Snap.snapshot_says a.snapshot))) (none_under k, was)) (ap (λ (k : ℕ). eqb k 0) c ∙ ne_eqb n 0 (λ z. omega arith)) c
-  left_snapshot (done s) l e =
-      ap (λ (x : SnapshotAnswer). cond (eqb x.code 0) (snapshot_left was (done (Snap.snapshot_says x.snapshot))) (none_under x.code, was)) e
-      ∙ ap (λ (x : Snapshot). snapshot_left was (done x)) (laid_says s)
+  pub left_snapshot : (a : Result declared.Snapshot Refusal) (q : Answer Snapshot) → Snap.answer_says a ≡ Snap.laid_answer q → snapshot_put was a ≡ snapshot_left was q
+  left_snapshot (Err r) q e = ap (snapshot_left was) (sym (laid_refused q (number_of r) e))
+  left_snapshot (Ok s) q e = ap (snapshot_left was) (sym (laid_done q s e))
 
--- an answer of at most 8 ranges is in form, and so is a refusal's empty snapshot
+-- an answer of at most 8 ranges is in form
 abbrev Few : Answer Snapshot → Type 0
 Few (refused n) = Unit {0}
 Few (done s) = length s.path ≤ 8
 
-pub answer_formed : (a : SnapshotAnswer) (q : Answer Snapshot) → Few q → a ≡ Snap.laid_answer q → Snap.in_form a.snapshot ≡ true
-answer_formed a (refused n) f e = ap (λ (x : SnapshotAnswer). Snap.in_form x.snapshot) e ∙ laid_formed (record { path = []; count = 0 }) (omega arith)
-answer_formed a (done s) f e = ap (λ (x : SnapshotAnswer). Snap.in_form x.snapshot) e ∙ laid_formed s f
+pub answer_formed : (a : Result declared.Snapshot Refusal) (q : Answer Snapshot) → Few q → Snap.answer_says a ≡ Snap.laid_answer q → Snap.answer_form a ≡ true
+answer_formed (Err r) q f e = refl
+answer_formed (Ok x) (refused n) f e = refused_done (sym e)
+answer_formed (Ok x) (done s) f e = ap Snap.in_form (done_same e) ∙ laid_formed s f
 
 -- ---- the two rules: checks of 1, 2 and 3, at most 8 ranges
-
-chain_early : (b c d : Bool) (s : Snapshot) → Early (ask b 1 >> (ask c 2 >> (ask d 3 >> done s)))
-chain_early true true true s = tt
-chain_early true true false s = (omega arith, omega arith)
-chain_early true false d s = (omega arith, omega arith)
-chain_early false c d s = (omega arith, omega arith)
 
 chain_few : (b c d : Bool) (s : Snapshot) → (d ≡ true → length s.path ≤ 8) → Few (ask b 1 >> (ask c 2 >> (ask d 3 >> done s)))
 chain_few true true true s h = h refl
@@ -147,10 +125,6 @@ module _ (r : Range) (count : ℕ) where
   abbrev one : Snapshot
   one = record { path = r ∷ []; count = count }
 
-  pub new_early : Early (snapshot_new r count)
-  unfolding snapshot_new
-  new_early = chain_early (range_lsns r) (range_order r) true one
-
   pub new_few : Few (snapshot_new r count)
   unfolding snapshot_new
   new_few = chain_few (range_lsns r) (range_order r) true one (λ e. omega arith)
@@ -158,10 +132,6 @@ module _ (r : Range) (count : ℕ) where
 module _ (s : Snapshot) (r : Range) where
   abbrev more : Snapshot
   more = record { path = s.path ++ (r ∷ []); count = s.count }
-
-  pub append_early : Early (snapshot_append s r)
-  unfolding snapshot_append
-  append_early = chain_early (snapshot_lsns s && range_lsns r) (snapshot_order s && range_order r) (ltb (length s.path) 8) more
 
   pub append_few : Few (snapshot_append s r)
   unfolding snapshot_append
@@ -196,14 +166,9 @@ module _ (b : List ℕ) (r : Range) where
   append_unformed e = rw e (stopped (more (snapshot_in b) r) (snapshot_lsns (snapshot_in b) && range_lsns r) (snapshot_order (snapshot_in b) && range_order r) (ltb (length (snapshot_in b).path) 8))
 
 -- the number of an answer that is laid out is the rule's
-pub laid_code : (a : SnapshotAnswer) (q : Answer Snapshot) → a ≡ Snap.laid_answer q → a.code ≡ code q
-laid_code a (refused n) e = ap (λ (x : SnapshotAnswer). x.code) e
-laid_code a (done s) e = ap (λ (x : SnapshotAnswer). x.code) e
-
--- a head that is laid out says what it was laid out for
-pub head_says_lem : (h : Option (List ℕ × ℕ)) → head_says (Snap.laid_head h) ≡ h
-head_says_lem none = refl
-head_says_lem (some h) = refl
+pub laid_code : (a : Result declared.Snapshot Refusal) (q : Answer Snapshot) → Snap.answer_says a ≡ Snap.laid_answer q → code_of a ≡ code q
+laid_code (Err r) q e = ap code (sym (laid_refused q (number_of r) e))
+laid_code (Ok s) q e = ap code (sym (laid_done q s e))
 
 -- the checks of a head, in their turn
 module _ (b : List ℕ) where
@@ -245,5 +210,5 @@ module _ (b : List ℕ) (s : declared.Snapshot) (e : s ≡ Snap.laid (snapshot_i
   arg_formed = ap Snap.in_form e ∙ laid_formed (snapshot_in b) (in_few b)
 
   -- and the call by value answers the rule on that
-  pub answer_append : (r : LogRange) (range : Range) (a : SnapshotAnswer) → Snap.range_says r ≡ range → a ≡ Snap.laid_answer (Snap.appended s r) → a ≡ Snap.laid_answer (snapshot_append (snapshot_in b) range)
+  pub answer_append : (r : LogRange) (range : Range) (a : Result declared.Snapshot Refusal) → Snap.range_says r ≡ range → Snap.answer_says a ≡ Snap.laid_answer (Snap.appended s r) → Snap.answer_says a ≡ Snap.laid_answer (snapshot_append (snapshot_in b) range)
   answer_append r range a f h = h ∙ ap Snap.laid_answer (in_form_lem s r arg_formed ∙ ap₂ snapshot_append arg_says f)

@@ -1,12 +1,12 @@
 -- A snapshot that is an argument in bytes. 1 and 2 look at the ranges that it spells, at most 8; 3 asks its size and its form. Of a slice of another length nothing else is looked at.
-use Rattle.std.specs.Prelude.{ℕ, Bool, cond, ◌&&◌, List, [], length, ◌==◌, Option as Maybe, Some, None}
-use Rattle.std.proofs.Math.Option.{Option, none, some}
-use Rattle.basics.specs.declared.lsn.Lsn.{Lsn}
+use Rattle.std.specs.Prelude.{ℕ, Bool, cond, ◌&&◌, List, [], length, ◌==◌, Result, Ok, Err}
+use Rattle.std.proofs.Math.Option.{Option}
 use Rattle.basics.specs.Answers.{Answer, done, ask, ◌>>=◌, ◌>>◌}
+use Rattle.basics.specs.Refusals.{number_of}
+use Rattle.basics.specs.declared.refusal.Refusal.{Refusal}
 use Rattle.rules.specs.Records.{Range, Snapshot}
 use Rattle.rules.specs.Arguments.{range_lsns, range_order, snapshot_lsns, snapshot_order, snapshot_append}
-use Rattle.volume.specs.declared.snapshot.Head.{Head}
-use Rattle.volume.specs.declared.snapshot.SnapshotAnswer.{SnapshotAnswer}
+use Rattle.volume.specs.declared.snapshot.Snapshot as declared
 use Rattle.volume.specs.Snapshots.{snapshot_says, head_of}
 use Rattle.layout.specs.Codecs.{spelled}
 use Rattle.layout.specs.Values.{snapshot_bytes}
@@ -38,21 +38,14 @@ head_in b = do
   ask (snapshot_formed b) 3
   done (head_of (snapshot_in b))
 
--- what a head by value says
-abbrev pub head_at : Maybe Lsn → List ℕ → Option (List ℕ × ℕ)
-head_at None log = none
-head_at (Some n) log = some (log, n.0)
-
-abbrev pub head_says : Head → Option (List ℕ × ℕ)
-head_says h = head_at h.lsn h.log
-
 -- a snapshot's bytes in what is lent for them, after the rule's own numbers
 abbrev pub snapshot_left : List ℕ → Answer Snapshot → Reply × List ℕ
 snapshot_left was q = value snapshot_bytes.spell was (sized snapshot_bytes.size was q)
 
 -- an answer by value, as it is put
-unfoldable pub snapshot_put : List ℕ → SnapshotAnswer → Reply × List ℕ
-snapshot_put was a = cond (a.code == 0) (snapshot_left was (done (snapshot_says a.snapshot))) (none_under a.code, was)
+abbrev pub snapshot_put : List ℕ → Result declared.Snapshot Refusal → Reply × List ℕ
+snapshot_put was (Err r) = (none_under (number_of r), was)
+snapshot_put was (Ok s) = snapshot_left was (done (snapshot_says s))
 
 -- the number of a call whose snapshot is not in form: its own 1 or 2, else 3
 abbrev pub or_three : ℕ → ℕ

@@ -12,6 +12,7 @@ use arguments::snapshots::{or_three, put_head, put_snapshot, snapshot_arg, snaps
 use arguments::{Reply, replies};
 use basics::lsn::Lsn;
 use basics::page_count::PageCount;
+use basics::refusal::Refusal;
 use volume::snapshot::{LogRange, Snapshot};
 use volume::volume::changes;
 
@@ -83,7 +84,7 @@ pub fn sigatuda_snapshot_append(
 {
     let a = snapshot_arg(snapshot).append(log_range(log, start, end));
     if !snapshot_ok(snapshot) {
-        return or_three(a.code);
+        return or_three(a);
     }
     put_snapshot(a, out)
 }
@@ -94,13 +95,13 @@ pub fn sigatuda_snapshot_head(snapshot: &[u8], log: &mut [u8; 16], lsn: &mut u64
 {
     let s = snapshot_arg(snapshot);
     if !s.has_lsns() {
-        return Reply { code: 1, found: 0 };
+        return replies::refused(Refusal::Zero);
     }
     if !s.is_ordered() {
-        return Reply { code: 2, found: 0 };
+        return replies::refused(Refusal::Reversed);
     }
     if !snapshot_ok(snapshot) {
-        return Reply { code: 3, found: 0 };
+        return replies::refused(Refusal::Form);
     }
     put_head(s.head(), log, lsn)
 }

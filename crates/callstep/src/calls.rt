@@ -70,16 +70,15 @@ pub fn snap(volumes: &[u8], commits: &[u8], slots: &mut [u8], vid: u8, slot: u8)
     ensures result_value { printed_says result ≡ (code (snap_on volumes.now commits.now vid), snap_head (snap_on volumes.now commits.now vid)) }
     ensures slots_after { slots.new ≡ slots_after slot slots.old (snap_on volumes.now commits.now vid) }
 {
-    let a = viewcalls::snapshot(volumes, commits, id_of(vid));
-    let refusal = a.code;
-    if refusal != 0 {
-        return coded(refusal);
-    }
-    let s = a.snapshot;
-    slots::put(slots, slot, s);
-    Printed {
-        code: 0,
-        head: made::short_head(s.head()),
+    match viewcalls::snapshot(volumes, commits, id_of(vid)) {
+        Err(refusal) => coded(refusal.number()),
+        Ok(s) => {
+            slots::put(slots, slot, s);
+            Printed {
+                code: 0,
+                head: made::short_head(s.head()),
+            }
+        }
     }
 }
 

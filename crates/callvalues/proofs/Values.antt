@@ -1,5 +1,5 @@
 -- Identifiers of a last byte are in form; a slot is set by one store; heads of snapshots and commits in bytes.
-use Rattle.std.proofs.Common.{◌≡◌, ℕ, ◌+◌, ◌<◌, ◌≤◌, true, List, [], ◌∷◌, ◌++◌, length, get_or, sym, refl, ap, ◌∙◌, arith, lt-ltb}
+use Rattle.std.proofs.Common.{◌≡◌, ℕ, ◌+◌, ◌<◌, ◌≤◌, true, List, [], ◌∷◌, ◌++◌, length, get_or, sym, refl, ap, ◌∙◌, arith, lt-ltb, Option as Maybe}
 use mathlib.Core.Option.{Option, none, some}
 use Rattle.octets.specs.Bytes.{bytes_of, part, put}
 use Rattle.octets.proofs.Numbers.{length_bytes_of}
@@ -8,12 +8,12 @@ use Rattle.rules.specs.Records.{Commit}
 use Rattle.rules.specs.Lists.{all}
 use Rattle.rules.specs.Forms.{bytes_form, id_form}
 use Rattle.volume.specs.declared.snapshot.Snapshot.{Snapshot}
-use Rattle.volume.specs.declared.snapshot.Head.{Head}
-use Rattle.volume.specs.Snapshots.{snapshot_says, laid, head_of, laid_head}
+use Rattle.basics.specs.declared.logref.LogRef.{LogRef}
+use Rattle.volume.specs.Snapshots.{snapshot_says, laid, head_says, head_of}
 use Rattle.layout.specs.Records.{commit_bytes}
-use Rattle.arguments.specs.Snapshots.{snapshot_in, head_says}
+use Rattle.arguments.specs.Snapshots.{snapshot_in}
 use Rattle.arguments.proofs.ArgLaws.{whole}
-use Rattle.arguments.proofs.SnapshotLaws.{head_says_lem, arg_says}
+use Rattle.arguments.proofs.SnapshotLaws.{arg_says}
 use Rattle.callvalues.specs.Values.{id_of, shortly, commit_head}
 
 -- ---- identifiers
@@ -35,12 +35,9 @@ slot_stored at ys s t u l h e f =
 
 -- ---- heads
 
-pub head_short : (h : Head) (o : Option (List ℕ × ℕ)) → h ≡ laid_head o → shortly (head_says h) ≡ shortly o
-head_short h o e = ap (λ (x : Head). shortly (head_says x)) e ∙ ap shortly (head_says_lem o)
-
 -- of a snapshot in bytes
-pub head_in_lem : (b : List ℕ) (s : Snapshot) (h : Head) → s ≡ laid (snapshot_in b) → h ≡ laid_head (head_of (snapshot_says s)) → shortly (head_says h) ≡ shortly (head_of (snapshot_in b))
-head_in_lem b s h e f = head_short h (head_of (snapshot_says s)) f ∙ ap (λ x. shortly (head_of x)) (arg_says b s e)
+pub head_in_lem : (b : List ℕ) (s : Snapshot) (h : Maybe LogRef) → s ≡ laid (snapshot_in b) → head_says h ≡ head_of (snapshot_says s) → shortly (head_says h) ≡ shortly (head_of (snapshot_in b))
+head_in_lem b s h e f = ap shortly (f ∙ ap head_of (arg_says b s e))
 
 -- of a commit in bytes
 pub commit_in_lem : (b log : List ℕ) (n : ℕ) → length b ≡ 722 → log ≡ (commit_bytes.read (part 0 722 b)).log → n ≡ (commit_bytes.read (part 0 722 b)).lsn

@@ -2,16 +2,17 @@
 ghost use Rattle.std.specs.Prelude.{◌≡◌, true, length};
 ghost use Rattle.std.proofs.Math.Option.{some};
 ghost use Rattle.pageset.specs.Sets.{shown, normal};
-ghost use Rattle.volume.specs.Snapshots.{head_of};
+ghost use Rattle.volume.specs.Snapshots.{head_of, head_says as says_head};
 ghost use Rattle.layout.specs.Values.{set_bytes};
 ghost use Rattle.layout.specs.Records.{commit_bytes};
-ghost use Rattle.arguments.specs.Snapshots.{snapshot_in, head_says as says_head};
+ghost use Rattle.arguments.specs.Snapshots.{snapshot_in};
 ghost use Rattle.commitbytes.specs.Laid.{commit_laid};
 ghost use Rattle.calltext.specs.Says.{head_says};
 ghost use Rattle.callvalues.specs.Values.{id_of, fetched, shortly, commit_head};
 
 use arguments::snapshots::snapshot_arg;
 use basics::id::{LogId, SegmentId};
+use basics::logref::LogRef;
 use basics::lsn::Lsn;
 use basics::page_count::PageCount;
 use calltext::Head;
@@ -66,15 +67,14 @@ pub fn fetched_bytes(
 }
 
 // A snapshot's head as it is printed.
-pub fn short_head(head: volume::snapshot::Head) -> Head
+pub fn short_head(head: Option<LogRef>) -> Head
     ensures { head_says result ≡ shortly (says_head head) }
 {
-    let lsn = head.lsn;
-    let Some(n) = lsn else {
+    let Some(at) = head else {
         return Head::Nothing;
     };
-    let log = head.log;
-    Head::At(log[15], n.0)
+    let log = at.log;
+    Head::At(log[15], at.lsn.0)
 }
 
 // The head of a snapshot in bytes, as it is printed.

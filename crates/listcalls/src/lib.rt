@@ -19,12 +19,13 @@ ghost use Rattle.resultlists.specs.Snapshots.{on_snapshot};
 ghost use Rattle.listcalls.specs.Runs.{rows_put, range_commits, StandsAt, first_commits};
 
 use arguments::Reply;
+use arguments::replies::refused;
 use arguments::snapshots::snapshot_arg;
 use basics::id::LogId;
 use basics::lsn::Lsn;
 use commits::commits_formed;
 use layout::{COMMIT, TAG, VOLUME};
-use resultlists::snapshot_code;
+use resultlists::snapshot_given;
 use table::Run;
 use tags::tags_formed;
 use volume::snapshot::LogRange;
@@ -174,9 +175,8 @@ pub fn snapshot_commits(commits: &[u8], snapshot: &[u8], list: &mut [u8], items:
     if !commits_formed(commits) {
         return Reply { code: 20, found: 0 };
     }
-    let code = snapshot_code(snapshot);
-    if code != 0 {
-        return Reply { code, found: 0 };
+    if let Err(refusal) = snapshot_given(snapshot) {
+        return refused(refusal);
     }
     let s = snapshot_arg(snapshot);
     let path = s.path;

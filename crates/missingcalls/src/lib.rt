@@ -19,6 +19,7 @@ ghost use Rattle.missingcalls.specs.Cursors.{SoundAt, Sound, frames_at, frames_l
 ghost use Rattle.missingcalls.specs.Entries.{entered, Entries};
 
 use arguments::Reply;
+use arguments::replies::refused;
 use arguments::snapshots::snapshot_arg;
 use basics::page_count::PageCount;
 use commit::SegmentRange;
@@ -30,7 +31,7 @@ use layout::RANGE;
 use notes::Notes;
 use pageset::{PageSet, sets};
 use presence::is_present;
-use resultlists::snapshot_code;
+use resultlists::snapshot_given;
 use segmentargs::lists::frame_in;
 use segmentbytes::frames::frames_count;
 use segmentbytes::range_write;
@@ -299,9 +300,8 @@ pub fn missing_frames(
     if !presence_formed(presence) {
         return Reply { code: 20, found: 0 };
     }
-    let code = snapshot_code(snapshot);
-    if code != 0 {
-        return Reply { code, found: 0 };
+    if let Err(refusal) = snapshot_given(snapshot) {
+        return refused(refusal);
     }
     let s = snapshot_arg(snapshot);
     let path = Path::of(commits, s);

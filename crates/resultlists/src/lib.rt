@@ -5,9 +5,11 @@
 ghost use Rattle.std.specs.Prelude.{◌≡◌, ◌+◌, ◌≤◌, length};
 ghost use Rattle.octets.specs.Bytes.{part, put};
 ghost use Rattle.basics.specs.Answers.{code};
+ghost use Rattle.basics.specs.Refusals.{code_of};
 ghost use Rattle.resultlists.specs.Snapshots.{snapshot_given};
 
 use arguments::snapshots::{snapshot_arg, snapshot_ok};
+use basics::refusal::Refusal;
 
 // The n bytes of t at a place over those of a list at another.
 pub fn copy(list: &mut [u8], at: usize, t: &[u8], from: usize, n: usize)
@@ -18,19 +20,19 @@ pub fn copy(list: &mut [u8], at: usize, t: &[u8], from: usize, n: usize)
     octets::store_all(list, at, &t[from..end])
 }
 
-// What is wrong with a snapshot in bytes: 1 for an LSN 0, 2 for a range that starts above its end, 3 for another size or form; else 0.
-pub fn snapshot_code(b: &[u8]) -> u32
-    ensures { result ≡ code (snapshot_given b.now) }
+// What is wrong with a snapshot in bytes: 1 for an LSN 0, 2 for a range that starts above its end, 3 for another size or form.
+pub fn snapshot_given(b: &[u8]) -> Result<(), Refusal>
+    ensures { code_of result ≡ code (snapshot_given b.now) }
 {
     let s = snapshot_arg(b);
     if !s.has_lsns() {
-        return 1;
+        return Err(Refusal::Zero);
     }
     if !s.is_ordered() {
-        return 2;
+        return Err(Refusal::Reversed);
     }
     if !snapshot_ok(b) {
-        return 3;
+        return Err(Refusal::Form);
     }
-    0
+    Ok(())
 }

@@ -1,8 +1,10 @@
--- The call by value has 20, 4 or a snapshot of at most two ranges; the length of the lent place stands between. The check by value has the numbers of the value that the bytes
+-- The call by value has 20, 4 or a snapshot of at most two ranges; the length of the lent place stands between, so that of another length 20 stays and all else is 3. The check by value has the numbers of the value that the bytes
 -- spell, which is always in form; where the bytes are not, 3 stands for all that comes after 2.
-use Rattle.std.proofs.Common.{◌≡◌, ℕ, ◌≤◌, Bool, true, false, ◌&&◌, eqb, List, length, sym, refl, ap, ◌∙◌, arith, eq-eqb, ne_eqb, le-leb}
+use Rattle.std.proofs.Common.{◌≡◌, ℕ, ◌≤◌, Bool, true, false, ◌&&◌, eqb, List, length, sym, refl, ap, ◌∙◌, arith, eq-eqb, ne_eqb, le-leb, Result}
 use mathlib.Core.Option.{Option, none, some}
 use Rattle.basics.specs.Answers.{Answer, refused, done, code, ask, need, ◌>>◌, ◌>>=◌}
+use Rattle.basics.specs.Refusals.{code_of}
+use Rattle.basics.specs.declared.refusal.Refusal.{Refusal}
 use Rattle.rules.specs.Records.{Id, Commit, Volume, Snapshot}
 use Rattle.rules.specs.Tables.{Table, get_volume, volumes_formed, commits_formed}
 use Rattle.rules.specs.Arguments.{snapshot_lsns, snapshot_order, snapshot_form}
@@ -14,17 +16,16 @@ use Rattle.layout.specs.Tables.{volumes_in, volumes_ok, commits_in, commits_ok}
 use Rattle.layout.specs.Lent.{lent}
 use Rattle.layout.proofs.LentLaws.{lent_no, lent_yes}
 use Rattle.volume.specs.declared.snapshot.Snapshot as declared
-use Rattle.volume.specs.declared.snapshot.SnapshotAnswer.{SnapshotAnswer}
-use Rattle.volume.specs.Snapshots.{snapshot_says, in_form, laid, laid_answer}
+use Rattle.volume.specs.Snapshots.{answer_form, answer_says, laid, laid_answer}
 use Rattle.volume.proofs.SnapshotLaws.{laid_says}
 use Rattle.viewcalls.specs.Checks.{checked}
 use Rattle.viewcalls.proofs.Ends.{formed}
 use Rattle.viewcalls.proofs.CheckLaws.{checked_rule}
 use Rattle.arguments.specs.declared.Reply.{Reply}
-use Rattle.arguments.specs.Replies.{none_under, given, value, placed}
-use Rattle.arguments.specs.Snapshots.{snapshot_in, snapshot_formed, snapshot_put}
-use Rattle.arguments.proofs.SnapshotLaws.{snapshot_size, laid_formed, in_few, put_refused, put_whole, answer_formed, laid_code}
-use Rattle.viewargs.specs.Views.{latest_in, unformed}
+use Rattle.arguments.specs.Replies.{none_under, value, placed}
+use Rattle.arguments.specs.Snapshots.{snapshot_in, snapshot_formed, snapshot_left, snapshot_put}
+use Rattle.arguments.proofs.SnapshotLaws.{snapshot_size, laid_formed, in_few, put_whole, left_snapshot, answer_formed, laid_code}
+use Rattle.viewargs.specs.Views.{latest_in, misplaced, unformed}
 
 -- ---- past 20 a snapshot's rule has 4, or a snapshot
 
@@ -61,64 +62,42 @@ module _ (was : List ℕ) (q : Answer Snapshot) where
   placed_yes : length was ≡ 262 → asked was q ≡ q
   placed_yes h = placed_by true (eq-eqb (length was) 262 h)
 
--- 20
-twenty : (was : List ℕ) (ok : Bool) (q : Answer Snapshot) → (ok ≡ true → Seen q) → code (lent ok q) ≡ 20 → (none_under 20, was) ≡ left was (lent ok (asked was q))
+-- 20, else 3
+three : (was : List ℕ) (ok : Bool) (q : Answer Snapshot) → (ok ≡ true → Seen q) → (length was ≡ 262 → ⊥) → (none_under (misplaced (code (lent ok q))), was) ≡ left was (lent ok (asked was q))
 unfolding lent
-twenty was false q past n = refl
-twenty was true (refused k) past n = absurd (omega (arith, past refl, n))
-twenty was true (done s) past n = absurd (omega (arith, n))
-
--- 3
-three : (was : List ℕ) (ok : Bool) (q : Answer Snapshot) → (code (lent ok q) ≡ 20 → ⊥) → (length was ≡ 262 → ⊥) → (none_under 3, was) ≡ left was (lent ok (asked was q))
-unfolding lent
-three was false q n h = absurd (n refl)
-three was true q n h = ap (left was) (sym (placed_no was q h))
+three was false q past h = refl
+three was true (refused k) past h = ap (λ (m : ℕ). (none_under (misplaced m), was)) (past refl) ∙ ap (left was) (sym (placed_no was (refused k) h))
+three was true (done s) past h = ap (left was) (sym (placed_no was (done s) h))
 
 -- what is answered by value is in form
-shaped : (a : SnapshotAnswer) (ok : Bool) (q : Answer Snapshot) → (ok ≡ true → Seen q) → a ≡ laid_answer (lent ok q) → in_form a.snapshot ≡ true
+shaped : (a : Result declared.Snapshot Refusal) (ok : Bool) (q : Answer Snapshot) → (ok ≡ true → Seen q) → answer_says a ≡ laid_answer (lent ok q) → answer_form a ≡ true
 unfolding lent
 shaped a false q past e = answer_formed a (refused 20) tt e
 shaped a true (refused n) past e = answer_formed a (refused n) tt e
 shaped a true (done s) past e = answer_formed a (done s) (past refl) e
 
--- 4, or the snapshot
-put : (was : List ℕ) (a : SnapshotAnswer) (ok : Bool) (q : Answer Snapshot) → (ok ≡ true → Seen q) → (code (lent ok q) ≡ 20 → ⊥) → length was ≡ 262 → a ≡ laid_answer (lent ok q)
-    → snapshot_put was a ≡ left was (lent ok (asked was q))
-unfolding lent
-put was a false q past n h e = absurd (n refl)
-put was a true (refused k) past n h e =
-    let c : a.code ≡ k = laid_code a (refused k) e in
-    sym (put_refused was a (λ z. omega (arith, c, past refl)))
-    ∙ ap (λ (m : ℕ). (none_under m, was)) c
-    ∙ ap (left was) (sym (placed_yes was (refused k) h))
-put was a true (done s) past n h e =
-    sym (put_whole was a (laid_code a (done s) e) h)
-    ∙ ap (λ (x : Snapshot). (given, snapshot_bytes.spell x)) (ap (λ (x : SnapshotAnswer). snapshot_says x.snapshot) e ∙ laid_says s)
-    ∙ ap (left was) (sym (placed_yes was (done s) h))
+-- a place of the snapshot's length is given the answer as it is
+same_left : (was : List ℕ) → length was ≡ 262 → (q : Answer Snapshot) → snapshot_left was q ≡ left was q
+same_left was h (refused n) = refl
+same_left was h (done s) = sym (put_whole was s h)
 
 -- ---- the call that is lent volumes and commits
 
-module _ (t u : List ℕ) (vid : Id) (was : List ℕ) (a : SnapshotAnswer) (e : a ≡ laid_answer (lent (volumes_ok t && commits_ok u) (snapshot (volumes_in t) (commits_in u) vid))) where
+module _ (t u : List ℕ) (vid : Id) (was : List ℕ) (a : Result declared.Snapshot Refusal) (e : answer_says a ≡ laid_answer (lent (volumes_ok t && commits_ok u) (snapshot (volumes_in t) (commits_in u) vid))) where
   abbrev ok : Bool
   ok = volumes_ok t && commits_ok u
 
   abbrev rule : Answer Snapshot
   rule = snapshot (volumes_in t) (commits_in u) vid
 
-  abbrev number : a.code ≡ code (lent ok rule)
-  number = laid_code a (lent ok rule) e
+  pub not_placed : (length was ≡ 262 → ⊥) → (none_under (misplaced (code_of a)), was) ≡ left was (lent ok (asked was rule))
+  not_placed h = ap (λ (n : ℕ). (none_under (misplaced n), was)) (laid_code a (lent ok rule) e) ∙ three was ok rule (seen t u vid) h
 
-  pub not_tables : a.code ≡ 20 → (none_under 20, was) ≡ left was (lent ok (asked was rule))
-  not_tables n = twenty was ok rule (seen t u vid) (sym number ∙ n)
-
-  pub not_placed : (a.code ≡ 20 → ⊥) → (length was ≡ 262 → ⊥) → (none_under 3, was) ≡ left was (lent ok (asked was rule))
-  not_placed n h = three was ok rule (λ z. n (number ∙ z)) h
-
-  pub answer_shaped : in_form a.snapshot ≡ true
+  pub answer_shaped : answer_form a ≡ true
   answer_shaped = shaped a ok rule (seen t u vid) e
 
-  pub answer_put : (a.code ≡ 20 → ⊥) → length was ≡ 262 → snapshot_put was a ≡ left was (lent ok (asked was rule))
-  answer_put n h = put was a ok rule (seen t u vid) (λ z. n (number ∙ z)) h e
+  pub answer_put : length was ≡ 262 → snapshot_put was a ≡ left was (lent ok (asked was rule))
+  answer_put h = left_snapshot was a (lent ok rule) e ∙ same_left was h (lent ok rule) ∙ ap (λ (q : Answer Snapshot). left was (lent ok q)) (sym (placed_yes was rule h))
 
 -- ---- the latest check of a snapshot in bytes
 

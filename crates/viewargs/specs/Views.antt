@@ -15,6 +15,10 @@ latest_in vs cs vid b = do
   ask (snapshot_formed b) 3
   latest_check vs cs vid (snapshot_in b)
 
+-- the number of a snapshot's call whose place has another length: 20 stays, all else is 3
+abbrev pub misplaced : ℕ → ℕ
+misplaced n = cond (n == 20) 20 3
+
 -- the answer of the check where the bytes are not in form: 3 stands for 4, yes and no
 abbrev pub unformed : Answer Bool → Answer Bool
 unformed (refused n) = refused (cond (n == 4) 3 n)

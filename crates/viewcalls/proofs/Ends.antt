@@ -15,7 +15,7 @@ use Rattle.rows.specs.Lookups.{nth}
 use Rattle.rows.proofs.Rows.{formed_rules}
 use Rattle.rows.proofs.Tables.{volumes, commits}
 use Rattle.volume.specs.Volumes.{volume_says}
-use Rattle.volume.specs.Snapshots.{range_says, laid, laid_answer, zero_code}
+use Rattle.volume.specs.Snapshots.{range_says, laid, laid_answer}
 use Rattle.volume.specs.declared.volume.Volume.{Volume as CodeVolume}
 use Rattle.volume.specs.declared.snapshot.LogRange.{LogRange}
 use Rattle.volume.specs.declared.snapshot.Snapshot.{Snapshot as CodeSnapshot}
@@ -110,9 +110,9 @@ module _ (t u : List ℕ) where
 
     -- the snapshot s of the volume x that stands at place i
     pub snapshot_found : (i : ℕ) (x : CodeVolume) (s : CodeSnapshot) → nth i (volumes_in t).rows ≡ get_volume (volumes_in t) vid → map volume_laid (nth i (volumes_in t).rows) ≡ some x
-        → s ≡ laid (snapshot_of (commits_in u) (volume_says x)) → zero_code s ≡ laid_answer (lent (volumes_ok t && commits_ok u) (snapshot (volumes_in t) (commits_in u) vid))
+        → s ≡ laid (snapshot_of (commits_in u) (volume_says x)) → done s ≡ laid_answer (lent (volumes_ok t && commits_ok u) (snapshot (volumes_in t) (commits_in u) vid))
     unfolding seen
     snapshot_found i x s here read h =
         made_of volume_laid (nth i (volumes_in t).rows) x read (λ v e q.
-        ap zero_code (h ∙ ap (λ (z : CodeVolume). laid (snapshot_of (commits_in u) (volume_says z))) (sym q) ∙ ap (λ (w : Volume). laid (snapshot_of (commits_in u) w)) (says_laid v))
+        ap done (h ∙ ap (λ (z : CodeVolume). laid (snapshot_of (commits_in u) (volume_says z))) (sym q) ∙ ap (λ (w : Volume). laid (snapshot_of (commits_in u) w)) (says_laid v))
         ∙ ap laid_answer (sym (snapshot_is ∙ ap seen (sym here ∙ e))))

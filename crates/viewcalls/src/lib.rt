@@ -2,13 +2,12 @@
 #![tactic(auto)]
 
 ghost use Rattle.std.specs.Prelude.{◌≡◌, ◌≤◌, true, ◌&&◌, [], ◌∷◌, take};
-ghost use Rattle.basics.specs.Answers.{refused};
 ghost use Rattle.pagecalls.specs.Says.{yes_says};
 ghost use Rattle.rules.specs.Lists.{all, any, is_some, is_none};
 ghost use Rattle.rules.specs.Tables.{latest_lsn};
 ghost use Rattle.rules.specs.Snapshots.{watermark_of, remote_of, below, after, remote_snapshot, snapshot_of, snapshot as snapshot_rule, is_at, is_remote, same_answer, is_latest};
 ghost use Rattle.volume.specs.Volumes.{maybe_lsn_says, sync_says, volume_says};
-ghost use Rattle.volume.specs.Snapshots.{range_says, snapshot_says, laid, laid_answer};
+ghost use Rattle.volume.specs.Snapshots.{range_says, snapshot_says, laid, answer_says, laid_answer};
 ghost use Rattle.layout.specs.Tables.{volumes_in, volumes_ok, commits_in, commits_ok};
 ghost use Rattle.layout.specs.Lent.{lent};
 ghost use Rattle.viewcalls.specs.Checks.{latest_by, checked};
@@ -19,7 +18,7 @@ use basics::lsn::Lsn;
 use basics::page_count::PageCount;
 use basics::refusal::Refusal;
 use commits::{commits_formed, count_at, find_commit, lsn_at};
-use volume::snapshot::{LogRange, Snapshot, SnapshotAnswer};
+use volume::snapshot::{LogRange, Snapshot};
 use volume::volume::{SyncPoint, Volume};
 use volumes::{find_volume, volume_at, volumes_formed};
 
@@ -156,29 +155,20 @@ pub fn snapshot_of(commits: &[u8], v: Volume) -> Snapshot
     two_ranges(range, next, count)
 }
 
-// A refusal: its number, and the empty snapshot.
-fn no_snapshot(code: u32) -> SnapshotAnswer
-    ensures { result ≡ laid_answer (refused code) }
-{
-    let snapshot = Snapshot::empty(PageCount(0));
-    SnapshotAnswer { code, snapshot }
-}
-
 // The snapshot of the volume of an identifier: 20, 4.
-pub fn snapshot(volumes: &[u8], commits: &[u8], vid: VolumeId) -> SnapshotAnswer
-    ensures { result ≡ laid_answer (lent (volumes_ok volumes.now && commits_ok commits.now) (snapshot_rule (volumes_in volumes.now) (commits_in commits.now) vid)) }
+pub fn snapshot(volumes: &[u8], commits: &[u8], vid: VolumeId) -> Result<Snapshot, Refusal>
+    ensures { answer_says result ≡ laid_answer (lent (volumes_ok volumes.now && commits_ok commits.now) (snapshot_rule (volumes_in volumes.now) (commits_in commits.now) vid)) }
 {
     if !volumes_formed(volumes) {
-        return no_snapshot(20);
+        return Err(Refusal::TableForm);
     }
     if !commits_formed(commits) {
-        return no_snapshot(20);
+        return Err(Refusal::TableForm);
     }
     let Ok(i) = find_volume(volumes, vid) else {
-        return no_snapshot(4);
+        return Err(Refusal::NoVolume);
     };
-    let snapshot = snapshot_of(commits, volume_at(volumes, i));
-    SnapshotAnswer { code: 0, snapshot }
+    Ok(snapshot_of(commits, volume_at(volumes, i)))
 }
 
 // ---- latest check

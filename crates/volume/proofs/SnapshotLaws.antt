@@ -11,12 +11,13 @@ use Rattle.basics.specs.Answers.{Answer, refused, done, ask, ◌>>◌}
 use Rattle.rules.specs.Lists.{all}
 use Rattle.rules.specs.Records as rules
 use Rattle.rules.specs.Arguments.{range_lsns, range_order, snapshot_lsns, snapshot_order, snapshot_new, snapshot_append}
+use Rattle.rules.proofs.AnswerLaws.{refused_same, done_same, refused_done}
 use Rattle.rules.proofs.TableLaws.{and_snd}
 use Rattle.rules.proofs.Loops.{all_step}
 use Rattle.basics.specs.declared.page_count.PageCount.{PageCount}
 use Rattle.volume.specs.declared.snapshot.LogRange.{LogRange}
 use Rattle.volume.specs.declared.snapshot.Snapshot.{Snapshot}
-use Rattle.volume.specs.Snapshots.{range_says, snapshot_says, laid_range, no_range, is_zero_range, in_form, laid, with_range, appended}
+use Rattle.volume.specs.Snapshots.{range_says, snapshot_says, laid_range, no_range, is_zero_range, in_form, laid, laid_answer, with_range, appended}
 use Rattle.volume.specs.contracts.snapshot.Snapshot.{the_type}
 use Rattle.volume.proofs.PathLaws.{back, zero_ranges}
 
@@ -142,3 +143,13 @@ unfolding laid
 laid_says s =
     let e = take_at (map laid_range s.path) (replicate (8 - length s.path) no_range) (length s.path) (length-map s.path laid_range) in
     ap (λ (p : List rules.Range). record { path = p; count = s.count }) (ap (λ (l : List LogRange). map range_says l) e ∙ said_laid s.path)
+
+-- ---- the rule's answer by the one that is laid out: a number, or what the snapshot says
+
+pub laid_refused : (q : Answer rules.Snapshot) (n : ℕ) → refused n ≡ laid_answer q → q ≡ refused n
+laid_refused (refused m) n e = ap refused (sym (refused_same e))
+laid_refused (done s) n e = refused_done e
+
+pub laid_done : (q : Answer rules.Snapshot) (s : Snapshot) → done s ≡ laid_answer q → q ≡ done (snapshot_says s)
+laid_done (refused n) s e = refused_done (sym e)
+laid_done (done x) s e = ap done (sym (ap snapshot_says (done_same e) ∙ laid_says x))

@@ -1,15 +1,16 @@
 -- What a snapshot of the code says, when it is in form, and the value that an answer of the rules is laid out as.
-use Rattle.std.specs.Prelude.{ℕ, ◌+◌, ◌-◌, Bool, ◌&&◌, List, [], ◌∷◌, ◌++◌, map, length, take, drop, replicate, ◌==◌, nat_le, slice_set, Some, None}
+use Rattle.std.specs.Prelude.{ℕ, ◌+◌, ◌-◌, Bool, true, ◌&&◌, List, [], ◌∷◌, ◌++◌, map, length, take, drop, replicate, ◌==◌, nat_le, slice_set, Option as Maybe, Some, None, Result, Ok, Err}
 use Rattle.std.proofs.Math.Option.{Option, none, some}
 use Rattle.octets.specs.Order.{is_equal, lex}
 use Rattle.basics.specs.Answers.{Answer, refused, done, ask, ◌>>=◌, ◌>>◌}
+use Rattle.basics.specs.Refusals.{number_of}
+use Rattle.basics.specs.declared.logref.LogRef.{LogRef}
+use Rattle.basics.specs.declared.refusal.Refusal.{Refusal}
 use Rattle.rules.specs.Lists.{all}
 use Rattle.rules.specs.Records as rules
 use Rattle.rules.specs.Arguments.{range_lsns, range_order, snapshot_lsns, snapshot_order, snapshot_append}
 use Rattle.volume.specs.declared.snapshot.LogRange.{LogRange}
 use Rattle.volume.specs.declared.snapshot.Snapshot.{Snapshot}
-use Rattle.volume.specs.declared.snapshot.SnapshotAnswer.{SnapshotAnswer}
-use Rattle.volume.specs.declared.snapshot.Head.{Head}
 
 -- a range
 abbrev pub range_says : LogRange → rules.Range
@@ -42,14 +43,20 @@ laid s = record {
   count = record { 0 = s.count };
 }
 
--- a snapshot under the number 0
-abbrev pub zero_code : Snapshot → SnapshotAnswer
-zero_code s = record { code = 0; snapshot = s }
+-- the answer that a call's is: document 01's number, or a snapshot of the code
+abbrev pub answer_says : Result Snapshot Refusal → Answer Snapshot
+answer_says (Err r) = refused (number_of r)
+answer_says (Ok s) = done s
 
--- an answer as it is laid out: under a refusal's number stands the empty snapshot
-abbrev pub laid_answer : Answer rules.Snapshot → SnapshotAnswer
-laid_answer (refused n) = record { code = n; snapshot = laid (record { path = []; count = 0 }) }
-laid_answer (done s) = zero_code (laid s)
+-- a refusal, or a snapshot in form
+abbrev pub answer_form : Result Snapshot Refusal → Bool
+answer_form (Err r) = true
+answer_form (Ok s) = in_form s
+
+-- a rule's answer with its snapshot as it is laid out
+abbrev pub laid_answer : Answer rules.Snapshot → Answer Snapshot
+laid_answer (refused n) = refused n
+laid_answer (done s) = done (laid s)
 
 -- a range more at the place after the last
 abbrev pub with_range : Snapshot → LogRange → Snapshot
@@ -71,10 +78,10 @@ first_end (r ∷ rs) = some (r.log, r.end)
 abbrev pub head_of : rules.Snapshot → Option (List ℕ × ℕ)
 head_of s = first_end s.path
 
--- a head as it is laid out
-abbrev pub laid_head : Option (List ℕ × ℕ) → Head
-laid_head none = record { lsn = None; log = replicate 16 0 }
-laid_head (some h) = record { lsn = Some (record { 0 = h.1 }); log = h.0 }
+-- a log and its LSN, or nothing
+abbrev pub head_says : Maybe LogRef → Option (List ℕ × ℕ)
+head_says None = none
+head_says (Some h) = some (h.log, h.lsn.0)
 
 -- no range is on the path
 abbrev pub is_empty_path : rules.Snapshot → Bool

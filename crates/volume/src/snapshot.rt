@@ -1,16 +1,17 @@
 // Snapshots: a path of at most 8 log ranges, and a page count.
 ghost use Rattle.std.specs.Prelude.{◌≡◌, ◌<◌, []};
-ghost use Rattle.basics.specs.Answers.{refused as refused_rule};
 ghost use Rattle.rules.specs.Arguments.{range_lsns, range_order, snapshot_lsns, snapshot_order, snapshot_new};
-ghost use Rattle.volume.specs.Snapshots.{range_says, snapshot_says, no_range, is_zero_range, in_form, laid, laid_answer, zero_code, with_range, appended, head_of, laid_head, is_empty_path};
+ghost use Rattle.volume.specs.Snapshots.{range_says, snapshot_says, no_range, is_zero_range, in_form, laid, answer_says, laid_answer, with_range, appended, head_says, head_of, is_empty_path};
 
 use basics::id;
 use basics::id::LogId;
+use basics::logref::LogRef;
 use basics::lsn::Lsn;
 use basics::page_count::PageCount;
+use basics::refusal::Refusal;
 
 // A log and a range of its LSNs, both ends included.
-#[derive(Clone, Copy)]
+#[derive(Clone, Copy, Debug, PartialEq, Eq)]
 pub struct LogRange {
     pub log: LogId,
     pub start: Lsn,
@@ -18,25 +19,11 @@ pub struct LogRange {
 }
 
 // A snapshot: the first `len` ranges of the path, and the page count. What lies past `len` is zero.
-#[derive(Clone, Copy)]
+#[derive(Clone, Copy, Debug, PartialEq, Eq)]
 pub struct Snapshot {
     pub len: usize,
     pub path: [LogRange; 8],
     pub count: PageCount,
-}
-
-// Document 01's number, and a snapshot: of a refusal, the empty one.
-#[derive(Clone, Copy)]
-pub struct SnapshotAnswer {
-    pub code: u32,
-    pub snapshot: Snapshot,
-}
-
-// The head of a path: a log and its LSN, or nothing. The log of nothing is zero.
-#[derive(Clone, Copy)]
-pub struct Head {
-    pub lsn: Option<Lsn>,
-    pub log: LogId,
 }
 
 impl LogRange {
@@ -139,59 +126,57 @@ impl Snapshot {
     }
 
     // A snapshot of one range: 1 for an LSN 0, 2 for a start above the end.
-    pub fn new(range: LogRange, count: PageCount) -> SnapshotAnswer
-        ensures { result ≡ laid_answer (snapshot_new (range_says range) count.0) }
+    pub fn new(range: LogRange, count: PageCount) -> Result<Snapshot, Refusal>
+        ensures { answer_says result ≡ laid_answer (snapshot_new (range_says range) count.0) }
     {
         if !range.has_lsns() {
-            return refused(1);
+            return Err(Refusal::Zero);
         }
         if !range.is_ordered() {
-            return refused(2);
+            return Err(Refusal::Reversed);
         }
-        answered(Snapshot::empty(count).with_range(range))
+        Ok(Snapshot::empty(count).with_range(range))
     }
 
     // The snapshot with a range more, the last of the path: 1 for an LSN 0, 2 for a start above the end, 3 for a ninth range or a snapshot that is not in form.
-    pub fn append(self, range: LogRange) -> SnapshotAnswer
-        ensures { result ≡ laid_answer (appended self range) }
+    pub fn append(self, range: LogRange) -> Result<Snapshot, Refusal>
+        ensures { answer_says result ≡ laid_answer (appended self range) }
     {
         if !self.has_lsns() {
-            return refused(1);
+            return Err(Refusal::Zero);
         }
         if !range.has_lsns() {
-            return refused(1);
+            return Err(Refusal::Zero);
         }
         if !self.is_ordered() {
-            return refused(2);
+            return Err(Refusal::Reversed);
         }
         if !range.is_ordered() {
-            return refused(2);
+            return Err(Refusal::Reversed);
         }
         if !self.is_formed() {
-            return refused(3);
+            return Err(Refusal::Form);
         }
         if 8 <= self.len {
-            return refused(3);
+            return Err(Refusal::Form);
         }
-        answered(self.with_range(range))
+        Ok(self.with_range(range))
     }
 
     // The log and the end of the path's first range, or nothing.
-    pub fn head(self) -> Head
-        ensures { result ≡ laid_head (head_of (snapshot_says self)) }
+    pub fn head(self) -> Option<LogRef>
+        ensures { head_says result ≡ head_of (snapshot_says self) }
     {
         let path = self.path;
         if self.len == 0 {
-            let log = [0u8; 16];
-            return Head { lsn: None, log };
+            return None;
         }
         let first = path[0];
         let log = first.log;
-        let end = first.end;
-        Head {
-            lsn: Some(end),
+        Some(LogRef {
             log,
-        }
+            lsn: first.end,
+        })
     }
 
     // Whether no range is on the path.
@@ -200,19 +185,4 @@ impl Snapshot {
     {
         self.len == 0
     }
-}
-
-// A refusal: its number, and the empty snapshot.
-fn refused(code: u32) -> SnapshotAnswer
-    ensures { result ≡ laid_answer (refused_rule code) }
-{
-    let snapshot = Snapshot::empty(PageCount(0));
-    SnapshotAnswer { code, snapshot }
-}
-
-// A snapshot under the number 0.
-fn answered(snapshot: Snapshot) -> SnapshotAnswer
-    ensures { result ≡ zero_code snapshot }
-{
-    SnapshotAnswer { code: 0, snapshot }
 }

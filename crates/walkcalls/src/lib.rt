@@ -20,6 +20,7 @@ ghost use Rattle.resultlists.specs.Snapshots.{on_snapshot};
 ghost use Rattle.walkcalls.specs.Items.{item_bytes};
 
 use arguments::Reply;
+use arguments::replies::refused;
 use arguments::snapshots::snapshot_arg;
 use basics::page_count::PageCount;
 use commits::{commits_formed, lsn_at, row};
@@ -28,7 +29,7 @@ use gifts::{next_gift, put_gift};
 use layout::SEGMENT;
 use notes::Notes;
 use octets::store64;
-use resultlists::{copy, snapshot_code};
+use resultlists::{copy, snapshot_given};
 
 // An entry of the list: log, LSN, segment, gift.
 const ITEM: usize = 1003;
@@ -107,9 +108,8 @@ pub fn walk(commits: &[u8], snapshot: &[u8], list: &mut [u8], items: &mut u32) -
     if !commits_formed(commits) {
         return Reply { code: 20, found: 0 };
     }
-    let code = snapshot_code(snapshot);
-    if code != 0 {
-        return Reply { code, found: 0 };
+    if let Err(refusal) = snapshot_given(snapshot) {
+        return refused(refusal);
     }
     let s = snapshot_arg(snapshot);
     let path = Path::of(commits, s);

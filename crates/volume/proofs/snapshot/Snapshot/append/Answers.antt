@@ -1,13 +1,13 @@
 -- The tests are the checks of the rule, in its order; what passes them is the rule's answer as it is laid out. Assumes nothing.
 use Rattle.std.proofs.Common.{sym, ap, ◌∙◌}
-use Rattle.volume.specs.Snapshots.{laid_answer, zero_code}
+use Rattle.basics.specs.Answers.{done}
+use Rattle.volume.specs.Snapshots.{laid_answer}
 use Rattle.volume.proofs.SnapshotLaws.{places, own_lsns, range_lsns_lem, own_order, range_order_lem, not_formed, full, fits, laid_more}
 use Rattle.volume.proofs.snapshot.Snapshot.append.Goals as goal
 
 pub returns-then-not-has_lsns : goal.returns-then-not-has_lsns
 returns-then-not-has_lsns c =
-    c.refused.ensures
-    ∙ ap
+    ap
     laid_answer
     (own_lsns
     _
@@ -16,8 +16,7 @@ returns-then-not-has_lsns c =
 
 pub returns-then-not-has_lsns-2 : goal.returns-then-not-has_lsns-2
 returns-then-not-has_lsns-2 c =
-    c.refused-then-not-has_lsns-2.ensures
-    ∙ ap
+    ap
     laid_answer
     (range_lsns_lem
     _
@@ -27,8 +26,7 @@ returns-then-not-has_lsns-2 c =
 
 pub returns-then-not-is_ordered : goal.returns-then-not-is_ordered
 returns-then-not-is_ordered c =
-    c.refused-then-not-is_ordered.ensures
-    ∙ ap
+    ap
     laid_answer
     (own_order
     _
@@ -39,8 +37,7 @@ returns-then-not-is_ordered c =
 
 pub returns-then-not-is_ordered-2 : goal.returns-then-not-is_ordered-2
 returns-then-not-is_ordered-2 c =
-    c.refused-then-not-is_ordered-2.ensures
-    ∙ ap
+    ap
     laid_answer
     (range_order_lem
     _
@@ -52,8 +49,7 @@ returns-then-not-is_ordered-2 c =
 
 pub returns-then-not-is_formed : goal.returns-then-not-is_formed
 returns-then-not-is_formed c =
-    c.refused-then-not-is_formed.ensures
-    ∙ ap
+    ap
     laid_answer
     (not_formed
     _
@@ -66,8 +62,7 @@ returns-then-not-is_formed c =
 
 pub returns-then-self-ge8 : goal.returns-then-self-ge8
 returns-then-self-ge8 c =
-    c.refused-then-self-ge8.ensures
-    ∙ ap
+    ap
     laid_answer
     (full
     _
@@ -82,9 +77,8 @@ returns-then-self-ge8 c =
 
 pub returns : goal.returns
 returns c =
-    c.answered.ensures
-    ∙ ap
-    zero_code
+    ap
+    done
     (c.with_range.ensures
     ∙ laid_more
     c.args.self

@@ -3,7 +3,7 @@ use Rattle.std.proofs.Common.{true, false, sym, ap, ◌∙◌}
 use Rattle.rules.specs.Arguments.{snapshot_lsns, snapshot_order}
 use Rattle.arguments.proofs.SnapshotLaws.{arg_says}
 use Rattle.resultlists.proofs.SnapshotLaws.{code_1, code_2, code_formed}
-use Rattle.resultlists.proofs.snapshot_code.Goals as goal
+use Rattle.resultlists.proofs.snapshot_given.Goals as goal
 
 pub returns-then-not-has_lsns : goal.returns-then-not-has_lsns
 returns-then-not-has_lsns c =
