@@ -24,6 +24,7 @@ use Rattle.arguments.specs.declared.Reply.{Reply}
 use Rattle.arguments.specs.Replies.{none_under, value, given}
 use Rattle.arguments.specs.Snapshots.{snapshot_in, snapshot_formed, append_in, head_in, snapshot_left, snapshot_put, or_three}
 use Rattle.arguments.proofs.ArgLaws.{whole}
+use Rattle.arguments.proofs.SetLaws.{Early}
 
 pub snapshot_size : snapshot_bytes.size ≡ 262
 unfolding snapshot_bytes range_bytes
@@ -115,6 +116,12 @@ answer_formed (Ok x) (done s) f e = ap Snap.in_form (done_same e) ∙ laid_forme
 
 -- ---- the two rules: checks of 1, 2 and 3, at most 8 ranges
 
+chain_early : (b c d : Bool) (s : Snapshot) → Early (ask b 1 >> (ask c 2 >> (ask d 3 >> done s)))
+chain_early true true true s = tt
+chain_early true true false s = (omega arith, omega arith)
+chain_early true false d s = (omega arith, omega arith)
+chain_early false c d s = (omega arith, omega arith)
+
 chain_few : (b c d : Bool) (s : Snapshot) → (d ≡ true → length s.path ≤ 8) → Few (ask b 1 >> (ask c 2 >> (ask d 3 >> done s)))
 chain_few true true true s h = h refl
 chain_few true true false s h = tt
@@ -125,6 +132,10 @@ module _ (r : Range) (count : ℕ) where
   abbrev one : Snapshot
   one = record { path = r ∷ []; count = count }
 
+  pub new_early : Early (snapshot_new r count)
+  unfolding snapshot_new
+  new_early = chain_early (range_lsns r) (range_order r) true one
+
   pub new_few : Few (snapshot_new r count)
   unfolding snapshot_new
   new_few = chain_few (range_lsns r) (range_order r) true one (λ e. omega arith)
@@ -132,6 +143,10 @@ module _ (r : Range) (count : ℕ) where
 module _ (s : Snapshot) (r : Range) where
   abbrev more : Snapshot
   more = record { path = s.path ++ (r ∷ []); count = s.count }
+
+  pub append_early : Early (snapshot_append s r)
+  unfolding snapshot_append
+  append_early = chain_early (snapshot_lsns s && range_lsns r) (snapshot_order s && range_order r) (ltb (length s.path) 8) more
 
   pub append_few : Few (snapshot_append s r)
   unfolding snapshot_append

@@ -80,7 +80,7 @@ module _ (k : Keyed) (t : List ℕ) where
     pub first_not : not x.formed ≡ true → false ≡ rows_ok k n t
     first_not h = sym (first_is ∙ ap (λ b. b && later s (row_form k) t (n - 1) 2) (not-true x.formed h))
 
-    first_yes : not x.formed ≡ false → rows_ok k n t ≡ later s (row_form k) t (n - 1) 2
+    pub first_yes : not x.formed ≡ false → rows_ok k n t ≡ later s (row_form k) t (n - 1) 2
     first_yes h = first_is ∙ ap (λ b. b && later s (row_form k) t (n - 1) 2) (not-false x.formed h)
 
   -- record i, which stands behind the record at a place
@@ -96,7 +96,7 @@ module _ (k : Keyed) (t : List ℕ) where
         ∙ later_next s (row_form k) t (n - (i + 1)) at
         ∙ ap (λ b. b && (is_less (cmp s (part at s t) (part (at + s) s t)) && later s (row_form k) t (n - (i + 1)) (at + s))) next_form
 
-    next_not : not y.formed ≡ true → false ≡ rows_ok k n t
+    pub next_not : not y.formed ≡ true → false ≡ rows_ok k n t
     next_not h = sym (next_is ∙ ap (λ b. b && (is_less (cmp s (part at s t) (part (at + s) s t)) && later s (row_form k) t (n - (i + 1)) (at + s))) (not-true y.formed h))
 
     -- both are in form: their numbers decide
@@ -112,10 +112,10 @@ module _ (k : Keyed) (t : List ℕ) where
       both : rows_ok k n t ≡ (b && later s (row_form k) t (n - (i + 1)) (at + s))
       both = next_is ∙ ap₂ (λ p q. p && (q && later s (row_form k) t (n - (i + 1)) (at + s))) (not-false y.formed h) below_is
 
-      below_not : not b ≡ true → false ≡ rows_ok k n t
+      pub below_not : not b ≡ true → false ≡ rows_ok k n t
       below_not g = sym (both ∙ ap (λ q. q && later s (row_form k) t (n - (i + 1)) (at + s)) (not-true b g))
 
-      next_yes : not b ≡ false → rows_ok k n t ≡ later s (row_form k) t (n - (i + 1)) (at + s)
+      pub next_yes : not b ≡ false → rows_ok k n t ≡ later s (row_form k) t (n - (i + 1)) (at + s)
       next_yes g = both ∙ ap (λ q. q && later s (row_form k) t (n - (i + 1)) (at + s)) (not-false b g)
 
   -- the loop before record i: the record before it is in form and x has its numbers, and what is left of the question is asked of those from it on
@@ -211,7 +211,7 @@ module _ (k : Keyed) (w : ℕ) (ew : w ≡ size_of k) (t : List ℕ) (b : Bool) 
     test : (leb 2 (length t) && leb (count_of t) (cap_of (size_of k) t)) ≡ true
     test = sym eb ∙ not-false b h
 
-    count_two : 2 ≤ length t
+    pub count_two : 2 ≤ length t
     count_two = leb-true 2 (length t) (and_fst (leb 2 (length t)) (leb (count_of t) (cap_of (size_of k) t)) test)
 
     pub count_room : (n : ℕ) → n ≡ count_of t → 2 + n * size_of k ≤ length t

@@ -37,14 +37,13 @@ fn page(tally: &mut Tally, s: SegmentIdx, page: u32, code: u32) {
     tally.same(part.len(), 0);
 }
 
-// The frame list: a number, no frame, and zeros at both ends.
+// The frame list: a number, and the same for how many frames it has and for the places at both ends.
 fn list(tally: &mut Tally, s: SegmentIdx) {
     let got = frames::frame_list(s);
     tally.same(asked::number(&got), 3);
-    let list = asked::list_or_none(got);
-    tally.same(list.len, 0);
-    asked::no_range(tally, list.frames[0]);
-    asked::no_range(tally, list.frames[15]);
+    tally.same(asked::count(got), Err(3));
+    asked::no_range(tally, asked::place(got, 0), Err(3));
+    asked::no_range(tally, asked::place(got, 15), Err(3));
 }
 
 // Every call on a segment that is not in form: 3, and 1 for page 0 before that.

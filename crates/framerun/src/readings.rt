@@ -2,8 +2,8 @@
 use basics::pageidx::PageIdx;
 use plainframes::plain::Plain;
 use plainframes::{asked, plain};
-use plainset::held;
 use plainset::tally::Tally;
+use plainset::{held, said};
 
 // The segment of the readings.
 pub fn reading() -> Plain {
@@ -16,14 +16,7 @@ pub fn reading() -> Plain {
 fn frame(tally: &mut Tally, page: u32, start: u64, end: u64, list: &[u32]) {
     let got = frames::frame_for(reading().segment(), PageIdx(page));
     tally.same(asked::number(&got), 0);
-    asked::range(
-        tally,
-        asked::range_or_zero(got),
-        plain::sid(),
-        start,
-        end,
-        list,
-    );
+    asked::range(tally, said::told(got), plain::sid(), start, end, list);
 }
 
 // A page without a frame.
@@ -36,11 +29,11 @@ fn no_frame(tally: &mut Tally, page: u32) {
 fn listed(tally: &mut Tally) {
     let got = frames::frame_list(reading().segment());
     tally.same(asked::number(&got), 0);
-    let list = asked::list_or_none(got);
-    let held = list.frames;
-    tally.same(list.len, 2);
-    asked::range(tally, held[0], plain::sid(), 0, 100, &[2u32, 3]);
-    asked::range(tally, held[1], plain::sid(), 100, 150, &[5u32, 9]);
+    tally.same(asked::count(got), Ok(2));
+    let first = asked::place(got, 0);
+    let second = asked::place(got, 1);
+    asked::range(tally, first, plain::sid(), 0, 100, &[2u32, 3]);
+    asked::range(tally, second, plain::sid(), 100, 150, &[5u32, 9]);
 }
 
 // P8: bytes 0 to 100 exclusive with {2,3}, 100 to 150 with {5,9}. P9: page 4 has no frame; nor has any other page that is not in the set.

@@ -8,12 +8,12 @@ ghost use Rattle.notes.specs.Known.{Known, AsNoted};
 
 use pageset::bits::has_bit;
 
-// The notes of a walk.
+// The notes of a walk: of each place the tag of its window and the mask of that window's held pages, and the marks of the windows met, 64 in a word. Whoever walks may give notes of its own: what a step asks of them is said by `Known`.
 #[derive(Clone, Copy)]
 pub struct Notes {
-    tags: [u32; 64],
-    masks: [u64; 64],
-    marks: [u64; 64],
+    pub tags: [u32; 64],
+    pub masks: [u64; 64],
+    pub marks: [u64; 64],
 }
 
 impl Notes {
@@ -23,7 +23,7 @@ impl Notes {
     {
         Notes {
             tags: [0; 64],
-            masks: [0; 64],
+            masks: [0; 64], // of no page
             marks: [0; 64],
         }
     }

@@ -28,6 +28,10 @@ pub be_one : (x : ℕ) → be (x ∷ []) ≡ x
 unfolding be
 be_one x = omega arith
 
+-- one byte more at the end
+pub be_snoc : (xs : List ℕ) (x : ℕ) → be (xs ++ (x ∷ [])) ≡ be xs * 256 + x
+be_snoc xs x = be_append xs (x ∷ []) ∙ ap (λ (n : ℕ). be xs * 256 + n) (be_one x)
+
 -- k bytes spell a number below 256 ^ k
 pub be_lt : (xs : List ℕ) → AreBytes xs → be xs < 256 ^ length xs
 unfolding be

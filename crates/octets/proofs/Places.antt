@@ -2,12 +2,12 @@
 use mathlib.Core.Path.{◌≡◌, refl, sym, ap, ap₂, ◌∙◌, subst}
 use mathlib.Core.Bool.{Bool, true, false, cond}
 use mathlib.Core.List.{List, [], ◌∷◌, ◌++◌, append_assoc, append-nil}
-use Prim.Native.Nat.{ℕ, zero, suc, ◌+◌, ◌-◌, ◌%◌, ◌^◌, ◌≤◌, ◌<◌}
+use Prim.Native.Nat.{ℕ, zero, suc, ◌+◌, ◌-◌, ◌*◌, ◌/◌, ◌%◌, ◌^◌, ◌≤◌, ◌<◌}
 use native.Mathlib.Nat.{le_refl, add_assoc, add-zero, zero-add, div-one, mod-eq_of_lt}
 use native.Mathlib.Numerals.{add-one}
 use native.Mathlib.Omega.{arith}
 use native.Mathlib.Decide.{dec_lt}
-use lib.ListN.{length, get_or, set, take, drop, replicate, length-append, length-take, length-drop, length-replicate, drop_of_length-le, take-append-drop, get_or-eq_default}
+use lib.ListN.{length, get_or, set, take, drop, replicate, length-append, length-take, length-drop, length-replicate, drop_of_length-le, take-append-drop, get_or-eq_default, get_or-append}
 use lib.Seq.{length-take-le, take-length, get_or-drop, drop-cons, take_at, drop_at, take-append-le, drop-append-le, take-take, drop-drop, drop-length, get_or-take, take-add, take_all, set_split}
 use lib.Dec.{eqb}
 use borrow.Author.Tests.{eqb-true}
@@ -70,6 +70,11 @@ part_one at xs h = ap (take 1) (drop-cons xs at 0 h)
 -- a part's last element
 pub part_more : (at k : ℕ) (xs : List ℕ) → at + k < length xs → part at (k + 1) xs ≡ part at k xs ++ (get_or xs (at + k) 0 ∷ [])
 part_more at k xs h = part_add at k 1 xs ∙ ap (λ (r : List ℕ). part at k xs ++ r) (part_one (at + k) xs h)
+
+-- a part's first element
+pub part_less : (at k : ℕ) (xs : List ℕ) → at < length xs → part at (suc k) xs ≡ get_or xs at 0 ∷ part (at + 1) k xs
+unfolding part
+part_less at k xs h = ap (take (suc k)) (drop-cons xs at 0 h) ∙ ap (λ (n : ℕ). get_or xs at 0 ∷ take k (drop n xs)) (sym (add-one at))
 
 within : (k j n : ℕ) (xs : List ℕ) → j + k ≤ n → take k (drop j (take n xs)) ≡ take k (drop j xs)
 within k zero n xs h = take-take k n xs (omega arith)
@@ -159,6 +164,22 @@ part_put_after at b n ys xs h i =
     ∙ ap (drop (b - (at + length ys))) (drop_put at ys xs h)
     ∙ drop-drop (b - (at + length ys)) (at + length ys) xs
     ∙ ap (λ (k : ℕ). drop k xs) e)
+
+-- an element before it, and after it
+pub get_d_put_before : (at i : ℕ) (ys xs : List ℕ) → at ≤ length xs → i < at → get_or (put at ys xs) i 0 ≡ get_or xs i 0
+unfolding put
+get_d_put_before at i ys xs h l =
+    let k : i < length (take at xs) = rw length-take-le l in
+    get_or-append (take at xs) (ys ++ drop (at + length ys) xs) 0 i k ∙ get_or-take at xs i 0 l
+
+pub get_d_put_after : (at i : ℕ) (ys xs : List ℕ) → at + length ys ≤ length xs → at + length ys ≤ i → get_or (put at ys xs) i 0 ≡ get_or xs i 0
+get_d_put_after at i ys xs h l =
+    let e : at + length ys + (i - (at + length ys)) ≡ i = omega arith in
+    ap (λ (k : ℕ). get_or (put at ys xs) k 0) (sym e)
+    ∙ sym (get_or-drop (at + length ys) (put at ys xs) (i - (at + length ys)) 0)
+    ∙ ap (λ (r : List ℕ). get_or r (i - (at + length ys)) 0) (drop_put at ys xs h)
+    ∙ get_or-drop (at + length ys) xs (i - (at + length ys)) 0
+    ∙ ap (λ (k : ℕ). get_or xs k 0) e
 
 -- ---- several puts
 
@@ -284,6 +305,51 @@ pub paste_put : (from at n : ℕ) (xs : List ℕ) → from + n ≤ length xs →
 unfolding put part
 paste_put from at n xs h = rw (length_part from n xs h) (append_assoc (take at xs) (take n (drop from xs)) (drop (at + n) xs))
 
+-- bytes before a place over those from it on, when the two sides of the place stand apart
+pub put_apart : (at by n : ℕ) (s low high : List ℕ) → n ≤ by → at + by + n ≤ length s → low ≡ take (at + by) s → high ≡ drop (at + by) s
+    → low ++ (part at n low ++ drop n high) ≡ put (at + by) (part at n s) s
+unfolding put
+put_apart at by n s low high l h e f =
+    let p : part at n low ≡ part at n s = ap (part at n) (e ∙ sym (part_front (at + by) s)) ∙ part_part 0 (at + by) at n s (omega arith) ∙ ap (λ (k : ℕ). part k n s) (zero-add at) in
+    let d : drop n high ≡ drop (at + by + length (part at n s)) s =
+    ap (drop n) f ∙ drop-drop n (at + by) s ∙ ap (λ (k : ℕ). drop (at + by + k) s) (sym (length_part at n s (omega arith))) in
+    ap₂ (λ (x y : List ℕ). x ++ y) e (ap₂ (λ (x y : List ℕ). x ++ y) p d)
+
+-- a block more that goes up: of n bytes all but the first k have gone up by `by`, and now the m before these go
+pub moved_block : (s t u : List ℕ) (at by n k m : ℕ) → m ≤ k → m ≤ by → k ≤ n → at + by + n ≤ length s → t ≡ put (at + by + k) (part (at + k) (n - k) s) s
+    → u ≡ put (at + (k - m) + by) (part (at + (k - m)) m t) t → u ≡ put (at + by + (k - m)) (part (at + (k - m)) (n - (k - m)) s) s
+moved_block s t u at by n k m mk mb kn h e f =
+    let j : ℕ = k - m in
+    let a : ℕ = at + j + by in
+    let xs : List ℕ = part (at + j) m s in
+    let ys : List ℕ = part (at + k) (n - k) s in
+    let i : at + j + m ≡ at + k = omega arith in
+    let b : at + by + k ≡ a + m = omega arith in
+    let c : a ≡ at + by + j = omega arith in
+    let d : m + (n - k) ≡ n - j = omega arith in
+    let q : part (at + j) m t ≡ xs = ap (part (at + j) m) e ∙ part_put_before (at + by + k) (at + j) m ys s (omega arith) (omega arith) in
+    let r : t ≡ put (a + m) ys s = e ∙ ap (λ (x : ℕ). put x ys s) b in
+    let w : xs ++ ys ≡ part (at + j) (n - j) s =
+    ap (λ (x : ℕ). xs ++ part x (n - k) s) (sym i) ∙ sym (part_add (at + j) m (n - k) s) ∙ ap (λ (x : ℕ). part (at + j) x s) d in
+    f
+    ∙ ap₂ (put a) q r
+    ∙ put_front a m (n - k) xs ys s (length_part (at + j) m s (omega arith)) (length_part (at + k) (n - k) s (omega arith)) (omega arith)
+    ∙ ap₂ (λ (x : ℕ) (y : List ℕ). put x y s) c w
+
+-- and the last block, which is the first k
+pub moved_last : (s t u : List ℕ) (at by n k : ℕ) → k ≤ by → k ≤ n → at + by + n ≤ length s → t ≡ put (at + by + k) (part (at + k) (n - k) s) s
+    → u ≡ put (at + by) (part at k t) t → u ≡ put (at + by) (part at n s) s
+moved_last s t u at by n k kb kn h e f =
+    let a : at + (k - k) ≡ at = omega arith in
+    moved_block s t u at by n k k (omega arith) kb kn h e (f ∙ ap (λ (x : ℕ). put (x + by) (part x k t) t) (sym a))
+    ∙ ap₂ (λ (x : ℕ) (y : List ℕ). put x y s) (omega arith) (ap₂ (λ (x y : ℕ). part x y s) a (omega arith))
+
+-- before any has gone up
+pub moved_none : (at by n : ℕ) (s : List ℕ) → s ≡ put (at + by + n) (part (at + n) (n - n) s) s
+moved_none at by n s =
+    let e : n - n ≡ 0 = omega arith in
+    sym (ap (λ (k : ℕ). put (at + by + n) (part (at + n) k s) s) e ∙ ap (λ (x : List ℕ). put (at + by + n) x s) (part_none (at + n) s) ∙ put_none (at + by + n) s)
+
 -- one element
 pub put_one : (at x : ℕ) (xs : List ℕ) → at < length xs → put at (x ∷ []) xs ≡ set xs at x
 unfolding put
@@ -293,6 +359,17 @@ put_one at x xs h = ap (λ (n : ℕ). take at xs ++ x ∷ drop n xs) (add-one at
 
 pub be_at : (at : ℕ) (s : List ℕ) → at < length s → be (part at 1 s) ≡ get_or s at 0
 be_at at s h = ap be (part_one at s h) ∙ N.be_one (get_or s at 0)
+
+-- two halves
+pub be_two : (at j k : ℕ) (s : List ℕ) → at + (j + k) ≤ length s → be (part at (j + k) s) ≡ be (part at j s) * 256 ^ k + be (part (at + j) k s)
+be_two at j k s h =
+    ap be (part_add at j k s)
+    ∙ N.be_append (part at j s) (part (at + j) k s)
+    ∙ ap (λ (n : ℕ). be (part at j s) * 256 ^ n + be (part (at + j) k s)) (length_part (at + j) k s (omega arith))
+
+-- one byte more
+pub be_more : (at k : ℕ) (s : List ℕ) → at + k < length s → be (part at (k + 1) s) ≡ be (part at k s) * 256 + get_or s (at + k) 0
+be_more at k s h = ap be (part_more at k s h) ∙ N.be_snoc (part at k s) (get_or s (at + k) 0)
 
 -- the number at a place is below 256 to its width
 pub be_part_lt : (at k : ℕ) (s : List ℕ) → AreBytes s → at + k ≤ length s → be (part at k s) < 256 ^ k
@@ -307,7 +384,23 @@ pub store_one : (at v : ℕ) (s : List ℕ) → v < 256 → at < length s → se
 unfolding bytes_of
 store_one at v s l h = sym (put_one at v s h) ∙ ap (λ (x : ℕ). put at (x ∷ []) s) (sym (ap (λ (x : ℕ). x % 256) (div-one v) ∙ mod-eq_of_lt l))
 
+-- a number stored in two halves
+pub store_two : (at j k v hi lo : ℕ) (s t u : List ℕ) → at + (j + k) ≤ length s → bytes_of j hi ≡ bytes_of j (v / 256 ^ k) → bytes_of k lo ≡ bytes_of k v
+    → t ≡ put at (bytes_of j hi) s → u ≡ put (at + j) (bytes_of k lo) t → u ≡ put at (bytes_of (j + k) v) s
+store_two at j k v hi lo s t u h p q e f =
+    chain at j k (bytes_of j hi) (bytes_of k lo) s t u (N.length_bytes_of j hi) (N.length_bytes_of k lo) (omega arith) e f
+    ∙ ap (λ (l : List ℕ). put at l s) (ap₂ (λ (x y : List ℕ). x ++ y) p q ∙ sym (N.bytes_of_two j k v))
+
 -- ---- all zero
+
+pub all_zero_append : (xs ys : List ℕ) → all_zero (xs ++ ys) ≡ cond (all_zero xs) (all_zero ys) false
+unfolding all_zero
+all_zero_append [] ys = refl
+all_zero_append (x ∷ xs) ys = ap (λ (b : Bool). cond (eqb x 0) b false) (all_zero_append xs ys) ∙ both (eqb x 0) (all_zero xs)
+  where
+    both : (p q : Bool) → cond p (cond q (all_zero ys) false) false ≡ cond (cond p q false) (all_zero ys) false
+    both true q = refl
+    both false q = refl
 
 -- what is all zero
 pub all_zero_true : (xs : List ℕ) → all_zero xs ≡ true → xs ≡ replicate (length xs) 0

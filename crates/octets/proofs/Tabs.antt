@@ -1,11 +1,12 @@
 -- The laws of `tab`, and the turns of a loop that fills an array with its elements.
-use mathlib.Core.Path.{◌≡◌, refl, sym, ap, ◌∙◌}
+use mathlib.Core.Path.{◌≡◌, refl, sym, ap, ◌∙◌, subst}
 use mathlib.Core.List.{List, [], ◌∷◌, ◌++◌}
 use Prim.Native.Nat.{ℕ, zero, suc, ◌+◌, ◌-◌, ◌<◌}
 use native.Mathlib.Omega.{arith}
 use native.Mathlib.Numerals.{add-one}
-use lib.ListN.{length, get_or, set, drop, replicate, length-append}
-use lib.Seq.{drop-cons, set_at, append_snoc}
+use native.Mathlib.Decide.{dec_lt}
+use lib.ListN.{length, get_or, set, drop, replicate, length-append, get_or-append}
+use lib.Seq.{drop-cons, set_at, append_snoc, get_or_at}
 use Rattle.octets.specs.Tab.{tab}
 
 module _ {A : Type 0} (f : ℕ → A) where
@@ -27,6 +28,19 @@ module _ {A : Type 0} (f : ℕ → A) where
       ∙ set_at (tab f i) (get_or d i z) (drop (suc i) d) (f i) i (length_tab i)
       ∙ sym (append_snoc (tab f i) (f i) (drop (suc i) d))
       ∙ ap (λ (n : ℕ). tab f n ++ drop n d) (sym (add-one i))
+
+  pub get_d_tab : (z : A) (n i : ℕ) → i < n → get_or (tab f n) i z ≡ f i
+  unfolding tab
+  get_d_tab z zero i h = absurd (omega arith)
+  get_d_tab z (suc n) i h = go (get_d_tab z n i) (dec_lt i n)
+    where
+      go : (i < n → get_or (tab f n) i z ≡ f i) → Dec (i < n) → get_or (tab f n ++ (f n ∷ [])) i z ≡ f i
+      go rest (yes l) =
+          let k : i < length (tab f n) = subst (λ (m : ℕ). i < m) (sym (length_tab n)) l in
+          get_or-append (tab f n) (f n ∷ []) z i k ∙ rest l
+      go rest (no l) =
+          let e : i ≡ n = omega arith in
+          get_or_at (tab f n) (f n) [] z i (length_tab n ∙ sym e) ∙ ap f (sym e)
 
 -- the rest of an array that was filled with one value
 pub drop_replicate : {A : Type 0} (z : A) (n i : ℕ) → drop i (replicate n z) ≡ replicate (n - i) z

@@ -209,12 +209,35 @@ pub fn same_id(a: [u8; 16], b: [u8; 16]) -> bool
     same(&a, 0, &b, 0, 16)
 }
 
-// The n bytes at a place go up to the place `by` above it.
+// The n bytes at a place, which end before the place `by` above it, over those there: one copy.
+fn copy_up(s: &mut [u8], at: usize, by: usize, n: usize)
+    requires { (n ≤ by) × (at + by + n ≤ length s.old) }
+    ensures { s.new ≡ put (at + by) (part at n s.old) s.old }
+{
+    let (low, high) = s.split_at_mut(at + by);
+    high[..n].copy_from_slice(&low[at..at + n]);
+}
+
+// From so many bytes up a move goes in blocks.
+const FAR: usize = 128;
+
+// The n bytes at a place go up to the place `by` above it. A way far enough is gone in blocks of `by` bytes, the last first: none meets the place that it leaves, so that each is one copy.
+// Inlined, so that where a caller's way is known, as that of a record is, the processor copies many bytes at a time also on a short one.
+#[inline(always)]
 pub fn move_up(s: &mut [u8], at: usize, by: usize, n: usize)
     requires { at + by + n ≤ length s.old }
     ensures { s.new ≡ put (at + by) (part at n s.old) s.old }
 {
-    s.copy_within(at..at + n, at + by);
+    if by < FAR {
+        s.copy_within(at..at + n, at + by);
+        return;
+    }
+    let mut left = n;
+    while by < left {
+        left -= by;
+        copy_up(s, at + left, by, by);
+    }
+    copy_up(s, at, by, left);
 }
 
 // The n bytes at the place `by` above a place come down to it.

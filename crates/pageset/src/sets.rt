@@ -94,12 +94,14 @@ fn selected(s: PageSet, lo: u32, hi: u32, inside: bool) -> PageSet
     requires lo_nonzero { 0 < lo }
     ensures { IsSet (λ p. member s p && (if inside then within lo hi p else not (within lo hi p))) result }
 {
-    let mut set = empty();
+    let mut windows = empty().windows;
+    let mut len: usize = 0;
     for w in &s.windows[..s.len] {
         let q = w.index;
-        set.push(q, walk::picked(w.mask, bits::span_mask(q, lo, hi), inside));
+        let m = walk::picked(w.mask, bits::span_mask(q, lo, hi), inside);
+        len = walk::put(&mut windows, len, q, m);
     }
-    set
+    PageSet { len, windows }
 }
 
 // The pages of a set that are at most n.
@@ -202,14 +204,18 @@ pub fn union(a: PageSet, b: PageSet) -> SetAnswer
     SetAnswer { code: 0, set }
 }
 
-// The common pages of two sets, and the left set without them. Both are walked together, the lower index first.
+// The common pages of two sets, and the left set without them. Both are walked together, the lower index first. Counts stand beside their arrays, and it is inlined, so that who
+// asks for the common pages alone fills no other set.
+#[inline]
 pub fn cut(a: PageSet, b: PageSet) -> CutAnswer
     requires a_value { normal a ≡ true }
     requires b_value { normal b ≡ true }
     ensures { (result.code ≡ 0) × IsSet (λ p. member a p && member b p) result.common × IsSet (λ p. member a p && not (member b p)) result.left }
 {
-    let mut common = empty();
-    let mut left = empty();
+    let mut commons = empty().windows;
+    let mut lefts = empty().windows;
+    let mut met: usize = 0;
+    let mut kept: usize = 0;
     let mut i: usize = 0;
     let mut k: usize = 0;
     // Kept: two walks that go at their own pace; no one iterator does it plainer.
@@ -217,11 +223,19 @@ pub fn cut(a: PageSet, b: PageSet) -> CutAnswer
         let y = walk::head(b.len, k, b.windows[k.min(31)]);
         let t = walk::next_turn(a.windows[i], y);
         let rest = t.left & !t.right;
-        common.push(t.index, t.left & t.right);
-        left.push(t.index, rest);
+        met = walk::put(&mut commons, met, t.index, t.left & t.right);
+        kept = walk::put(&mut lefts, kept, t.index, rest);
         i += t.lefts;
         k += t.rights;
     }
+    let common = PageSet {
+        len: met,
+        windows: commons,
+    };
+    let left = PageSet {
+        len: kept,
+        windows: lefts,
+    };
     CutAnswer {
         code: 0,
         common,

@@ -4,6 +4,15 @@ ghost use Rattle.pageset.specs.Windows.{past_all, turn_of, window_of, pushed};
 
 use crate::{PageSet, Window};
 
+// The window of index q and that mask, after the first `len` of an array; answers how many count then: one more, or as many where the mask is zero.
+pub fn put(windows: &mut [Window; 32], len: usize, q: u32, m: u64) -> usize
+    requires { len < 32 }
+    ensures { record { len = result; windows = windows.new } ≡ pushed q m (record { len = len; windows = windows.old }) }
+{
+    windows[len] = window_of(q, m);
+    len + usize::from(m != 0)
+}
+
 // How a set under way is filled.
 impl PageSet {
     // The window of index q and that mask after those that count; none where the mask is zero.
@@ -11,8 +20,7 @@ impl PageSet {
         requires { self.old.len < 32 }
         ensures { self.new ≡ pushed q m self.old }
     {
-        self.windows[self.len] = window_of(q, m);
-        self.len += usize::from(m != 0);
+        self.len = put(&mut self.windows, self.len, q, m);
     }
 }
 

@@ -6,8 +6,8 @@ use basics::pageidx::PageIdx;
 use basics::refusal::Refusal;
 use commit::SegmentRange;
 use frames::FrameList;
-use plainset::held;
 use plainset::tally::Tally;
+use plainset::{held, said};
 
 // The number of an answer; 0 where it is not refused.
 pub fn number<A>(a: &Result<A, Refusal>) -> u32 {
@@ -25,53 +25,57 @@ pub fn is_found(a: Result<Option<SegmentRange>, Refusal>) -> bool {
     }
 }
 
-// The range of an answer; one of zeros where it holds none.
-pub fn range_or_zero(a: Result<Option<SegmentRange>, Refusal>) -> SegmentRange {
+// An answer that may hold a range. A refusal is an error that holds its number.
+pub type Found = Result<Option<SegmentRange>, u32>;
+
+// How many frames a frame list has.
+pub fn count(a: Result<FrameList, Refusal>) -> Result<usize, u32> {
+    said::told(a).map(|list| list.len)
+}
+
+// What stands at place i of a frame list.
+pub fn place(a: Result<FrameList, Refusal>, i: usize) -> Found {
+    said::told(a).map(|list| list.frames.get(i).copied())
+}
+
+// What an answer says of a part of its range: that part, none where it holds no range, or the number of its refusal.
+fn field<T, Reads: Fn(SegmentRange) -> T>(a: &Found, reads: Reads) -> Result<Option<T>, u32>
+    requires { Reads.IsAlwaysCallable reads }
+{
     match a {
-        Ok(Some(r)) => r,
-        _ => SegmentRange::zero(),
+        Ok(Some(r)) => Ok(Some(reads(*r))),
+        Ok(None) => Ok(None),
+        Err(code) => Err(*code),
     }
 }
 
-// The frame list of an answer; no frame where it is refused.
-pub fn list_or_none(a: Result<FrameList, Refusal>) -> FrameList {
-    match a {
-        Ok(list) => list,
-        Err(_) => FrameList {
-            len: 0,
-            frames: [SegmentRange::zero(); 16],
-        },
+// An answer that holds a range: its segment, its bytes and its pages.
+pub fn range(tally: &mut Tally, a: Found, sid: SegmentId, start: u64, end: u64, list: &[u32]) {
+    tally.same(field(&a, |r| r.sid), Ok(Some(sid)));
+    tally.same(field(&a, |r| r.start), Ok(Some(start)));
+    tally.same(field(&a, |r| r.end), Ok(Some(end)));
+    if let Ok(Some(r)) = a {
+        held::whole(tally, r.pages, list);
     }
 }
 
-// A range: its segment, its bytes and its pages.
-pub fn range(
-    tally: &mut Tally,
-    r: SegmentRange,
-    sid: SegmentId,
-    start: u64,
-    end: u64,
-    list: &[u32],
-) {
-    tally.same(r.sid, sid);
-    tally.same(r.start, start);
-    tally.same(r.end, end);
-    held::whole(tally, r.pages, list);
-}
-
-// A range that stands for none: all of it is zero.
-pub fn no_range(tally: &mut Tally, r: SegmentRange) {
-    tally.same(r.sid, [0u8; 16]);
-    tally.same(r.start, 0);
-    tally.same(r.end, 0);
-    held::blank(tally, r.pages);
+// An answer without a range, or with one of zeros: what it says of each part is what is wanted.
+pub fn no_range(tally: &mut Tally, a: Found, want: Found) {
+    tally.same(field(&a, |r| r.sid), field(&want, |r| r.sid));
+    tally.same(field(&a, |r| r.start), field(&want, |r| r.start));
+    tally.same(field(&a, |r| r.end), field(&want, |r| r.end));
+    tally.same(
+        field(&a, |r| held::is_blank(r.pages)),
+        field(&want, |r| held::is_blank(r.pages)),
+    );
 }
 
 // An answer that holds no range, under a number.
 pub fn none(tally: &mut Tally, a: Result<Option<SegmentRange>, Refusal>, code: u32) {
     tally.same(number(&a), code);
     tally.same(is_found(a), false);
-    no_range(tally, range_or_zero(a));
+    let want = if code != 0 { Err(code) } else { Ok(None) };
+    no_range(tally, said::told(a), want);
 }
 
 // The number of bytes of a range that does not end before it starts.
@@ -82,33 +86,41 @@ fn size(tally: &mut Tally, r: SegmentRange, want: u64) {
     tally.same(ranges::size(r), want);
 }
 
-// A range that is frame i of the lists.
-fn frame(tally: &mut Tally, p: &Plain, r: SegmentRange, i: usize) {
+// An answer that holds frame i of the lists.
+fn frame(tally: &mut Tally, p: &Plain, a: Found, i: usize) {
     let list = p.pages_of(i);
-    size(tally, r, p.size(i));
-    range(tally, r, plain::sid(), p.start(i), p.end(i), &list);
+    if let Ok(Some(r)) = a {
+        size(tally, r, p.size(i));
+    }
+    range(tally, a, plain::sid(), p.start(i), p.end(i), &list);
 }
 
-// The sixteen places of a frame list: the frames, and zeros past the last.
-fn places(tally: &mut Tally, p: &Plain, frames: &[SegmentRange]) {
-    for (i, r) in frames.iter().enumerate() {
-        if i < p.len {
-            frame(tally, p, *r, i);
-        } else {
-            no_range(tally, *r);
+// How many frames the lists have, or the number of the segment.
+fn count_of(p: &Plain) -> Result<usize, u32> {
+    match p.fault() {
+        0 => Ok(p.len),
+        code => Err(code),
+    }
+}
+
+// The sixteen places of a frame list: the frames, and zeros past the last; each is refused where the segment is.
+fn places(tally: &mut Tally, p: &Plain, a: Result<FrameList, Refusal>) {
+    let count = count_of(p);
+    for i in 0..16 {
+        match count {
+            Ok(len) if i < len => frame(tally, p, place(a, i), i),
+            Ok(_) => no_range(tally, place(a, i), Ok(Some(SegmentRange::zero()))),
+            Err(code) => no_range(tally, place(a, i), Err(code)),
         }
     }
 }
 
-// The frame list of a segment, under its number; of a refusal no frame.
+// The frame list of a segment, under its number.
 pub fn list(tally: &mut Tally, p: &Plain) {
     let got = frames::frame_list(p.segment());
-    let code = p.fault();
-    tally.same(number(&got), code);
-    let list = list_or_none(got);
-    let want = if code != 0 { p.counted(0) } else { *p };
-    tally.same(list.len, want.len);
-    places(tally, &want, &list.frames);
+    tally.same(number(&got), p.fault());
+    tally.same(count(got), count_of(p));
+    places(tally, p, got);
 }
 
 // Whether a segment is in form.
@@ -136,20 +148,11 @@ pub fn page(tally: &mut Tally, p: &Plain, page: u32) {
     };
     tally.same(number(&got), 0);
     tally.same(is_found(got), true);
-    frame(tally, p, range_or_zero(got), i);
+    frame(tally, p, said::told(got), i);
 }
 
 // Where a page's frame lies in a lent segment: from start up to but not at end, or nowhere. A refusal is an error that holds its number.
 type Place = Result<Option<(u64, u64)>, u32>;
-
-// The place that a call tells.
-fn told(a: Result<Option<(usize, usize)>, Refusal>) -> Place {
-    match a {
-        Err(refusal) => Err(refusal.number()),
-        Ok(Some((from, to))) => Ok(Some((from as u64, to as u64))),
-        Ok(None) => Ok(None),
-    }
-}
 
 // The place that the lists say.
 fn place_of(p: &Plain, page: u32, lent: usize) -> Place {
@@ -168,15 +171,15 @@ fn place_of(p: &Plain, page: u32, lent: usize) -> Place {
 
 // Where the bytes of a page's frame lie, in a lent segment of so many bytes: whether there is a place, and of a place its start and its end.
 pub fn bytes(tally: &mut Tally, p: &Plain, page: u32, lent: usize) {
-    let got = told(frames::frame_place(p.segment(), PageIdx(page), lent));
+    let got = said::told(frames::frame_place(p.segment(), PageIdx(page), lent));
     let want = place_of(p, page, lent);
     tally.same(
         got.map(|place| place.is_some()),
         want.map(|place| place.is_some()),
     );
     if let (Ok(Some((from, to))), Ok(Some((start, end)))) = (got, want) {
-        tally.same(from, start);
-        tally.same(to, end);
+        tally.same(from as u64, start);
+        tally.same(to as u64, end);
     }
 }
 

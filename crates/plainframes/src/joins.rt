@@ -5,7 +5,7 @@ use basics::refusal::Refusal;
 use commit::SegmentRange;
 use plainset::held::Held;
 use plainset::tally::Tally;
-use plainset::{held, naive};
+use plainset::{held, naive, said};
 
 // A run of a segment's bytes, and its set beside the list of its pages.
 #[derive(Clone, Copy)]
@@ -47,10 +47,10 @@ fn touched(
     if code != 0 {
         return asked::none(tally, a, code);
     }
-    let r = asked::range_or_zero(a);
     tally.same(asked::number(&a), 0);
     tally.same(asked::is_found(a), true);
-    asked::range(tally, r, first.sid, first.start, second.end, &list);
+    let a = said::told(a);
+    asked::range(tally, a, first.sid, first.start, second.end, &list);
 }
 
 // An answer to two pieces of one segment.

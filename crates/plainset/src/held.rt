@@ -54,7 +54,7 @@ pub fn own(tally: &mut Tally, h: &Held) {
 }
 
 // Whether a set is the empty set: no windows, and nothing past them.
-fn is_blank(s: PageSet) -> bool {
+pub fn is_blank(s: PageSet) -> bool {
     s.len == 0 && s.windows.iter().all(|w| w.index == 0 && w.mask == 0)
 }
 

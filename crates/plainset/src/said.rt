@@ -4,12 +4,17 @@ use basics::page_count::PageCount;
 use basics::pageidx::PageIdx;
 use basics::refusal::Refusal;
 
-// A call's yes or no.
-pub fn yes(a: Result<bool, Refusal>) -> Result<bool, u32> {
+// A call's answer, whatever it holds.
+pub fn told<A>(a: Result<A, Refusal>) -> Result<A, u32> {
     match a {
         Err(refusal) => Err(refusal.number()),
         Ok(answer) => Ok(answer),
     }
+}
+
+// A call's yes or no.
+pub fn yes(a: Result<bool, Refusal>) -> Result<bool, u32> {
+    told(a)
 }
 
 // A call's page, or none.

@@ -1,7 +1,6 @@
 // Comparisons and differences, counted and written out.
-use std::fmt::{Display, Formatter};
+use std::io;
 use std::io::Write;
-use std::{fmt, io};
 
 // How many answers were compared, and how many of them differed.
 #[derive(Clone, Copy, Default)]
@@ -20,16 +19,10 @@ impl Tally {
     }
 }
 
-impl Display for Tally {
-    fn fmt<W: fmt::Write>(&self, f: &mut Formatter<W>) -> fmt::Result {
-        let compared = self.compared;
-        let differing = self.differing;
-        write!(f, "{compared} comparisons, {differing} differences")
-    }
-}
-
 // Writes one line: what was compared, and both counts.
 pub fn report(to: &mut impl Write, name: &[u8], t: Tally) -> io::Result<()> {
     to.write_all(name)?;
-    writeln!(to, ": {t}")
+    let compared = t.compared;
+    let differing = t.differing;
+    writeln!(to, ": {compared} comparisons, {differing} differences")
 }

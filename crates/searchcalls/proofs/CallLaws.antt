@@ -118,7 +118,7 @@ module _ (t : List ℕ) (log : Id) (lsn : ℕ) where
         let c : counts lsn ≡ false = le-ltb 0 lsn (omega arith) in
         sym (lent_yes (checkpoints_ok t) (checkpoint_read (checkpoints_in t) log lsn) ok ∙ rw (formed_rules checkpoints t ok, c))
 
-    checkpoint_told : (lsn ≡ 0 → ⊥) → (o : Option ℕ) → o ≡ checkpoint_lsn (checkpoint_at (checkpoints_in t) log lsn) → done o ≡ lent (checkpoints_ok t) (checkpoint_read (checkpoints_in t) log lsn)
+    pub checkpoint_told : (lsn ≡ 0 → ⊥) → (o : Option ℕ) → o ≡ checkpoint_lsn (checkpoint_at (checkpoints_in t) log lsn) → done o ≡ lent (checkpoints_ok t) (checkpoint_read (checkpoints_in t) log lsn)
     unfolding checkpoint_read
     checkpoint_told z o h =
         let c : counts lsn ≡ true = lt-ltb 0 lsn (omega arith) in

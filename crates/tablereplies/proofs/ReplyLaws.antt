@@ -1,21 +1,48 @@
 -- What is left of an answer to a rule, by the cases of the rule's answer. A volume's rule does not answer 20 where its table is formed, so its own numbers come behind the lent place's 3. Assumes nothing.
 use Rattle.std.proofs.Common.{◌≡◌, ℕ, Bool, true, false, List, length, sym, refl, ap, ◌∙◌, ap₂, eq-eqb, ne_eqb}
+use Rattle.std.specs.Prelude.{Option as Maybe, Some, None, Result, Ok, Err}
 use mathlib.Core.Option.{Option, none, some}
 use Rattle.basics.specs.Answers.{Answer, refused, done, ask, need, ◌>>◌, ◌>>=◌}
+use Rattle.basics.specs.Refusals.{number_of}
+use Rattle.basics.specs.declared.page_count.PageCount.{PageCount}
+use Rattle.basics.specs.declared.refusal.Refusal.{Refusal}
 use Rattle.rules.specs.Lists.{is_some}
 use Rattle.rules.specs.Records.{Id, Volume}
 use Rattle.rules.specs.Tables.{get_volume}
 use Rattle.rules.specs.Reads.{volume_read}
+use Rattle.volume.specs.Volumes.{volume_says}
+use Rattle.volume.specs.declared.volume.Volume as declared
 use Rattle.layout.specs.Codecs.{Codec}
 use Rattle.layout.specs.Records.{volume_bytes}
 use Rattle.layout.specs.Tables.{volumes_in, volumes_ok}
 use Rattle.layout.specs.Lent.{lent}
 use Rattle.layout.proofs.LentLaws.{lent_yes, lent_no}
 use Rattle.volumecalls.proofs.Ends.{read_is}
-use Rattle.commitcalls.specs.Says.{Answered, out_after}
+use Rattle.volumecalls.specs.Says.{read_says}
+use Rattle.tagcalls.specs.Says.{named_says, tagged_says}
+use Rattle.commitcalls.specs.Says.{Answered, out_after, found_says, maybe_count_says}
 use Rattle.arguments.specs.declared.Reply.{Reply}
 use Rattle.arguments.specs.Replies.{none_under, value, value_or, yes_or_no, placed}
-use Rattle.tablereplies.specs.Records.{volume_left, volume_put}
+use Rattle.tablereplies.specs.Records.{says_by, counted, volume_left, volume_put}
+
+-- ---- what an answer says whose refusal is document 01's
+
+pub read_at : (a : Result declared.Volume Refusal) → says_by number_of volume_says a ≡ read_says a
+read_at (Err r) = refl
+read_at (Ok v) = refl
+
+pub tagged_at : (a : Result (Maybe Id) Refusal) → says_by number_of named_says a ≡ tagged_says a
+tagged_at (Err r) = refl
+tagged_at (Ok v) = refl
+
+pub found_at : (a : Result Bool Refusal) → says_by number_of (λ b. b) a ≡ found_says a
+found_at (Err r) = refl
+found_at (Ok b) = refl
+
+pub count_at : (a : Result (Maybe PageCount) Refusal) → says_by number_of counted a ≡ maybe_count_says a
+count_at (Err r) = refl
+count_at (Ok (Some n)) = refl
+count_at (Ok None) = refl
 
 -- ---- a record that the call wrote itself
 

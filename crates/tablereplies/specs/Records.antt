@@ -1,11 +1,23 @@
--- What a call leaves whose answer is a volume: its reply, and what is lent for the answer.
-use Rattle.std.specs.Prelude.{ℕ, Bool, cond, List, ◌==◌}
-use Rattle.basics.specs.Answers.{Answer, code}
+-- What an answer says whose refusal any number may tell, and what a call leaves whose answer is a volume: its reply, and what is lent for the answer.
+use Rattle.std.specs.Prelude.{ℕ, Bool, cond, List, ◌==◌, Option as Maybe, Some, None, Result, Ok, Err}
+use Rattle.std.proofs.Math.Option.{Option, none, some}
+use Rattle.basics.specs.Answers.{Answer, refused, done, code}
+use Rattle.basics.specs.declared.page_count.PageCount.{PageCount}
 use Rattle.rules.specs.Records.{Volume}
 use Rattle.layout.specs.Records.{volume_bytes}
 use Rattle.layout.specs.Lent.{lent}
 use Rattle.arguments.specs.declared.Reply.{Reply}
 use Rattle.arguments.specs.Replies.{none_under, value, placed}
+
+-- what an answer says: the number of its refusal, or its value under 0
+abbrev pub says_by : {R A B : Type 0} → (R → ℕ) → (A → B) → Result A R → Answer B
+says_by number says (Err r) = refused (number r)
+says_by number says (Ok a) = done (says a)
+
+-- a page count, or nothing
+abbrev pub counted : Maybe PageCount → Option ℕ
+counted (Some n) = some n.0
+counted None = none
 
 -- a volume's bytes in what is lent for them
 abbrev pub volume_left : List ℕ → Bool → Answer Volume → Reply × List ℕ

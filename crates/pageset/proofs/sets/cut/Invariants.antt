@@ -9,10 +9,10 @@ use Rattle.pageset.proofs.sets.cut.Given as goal
 
 abbrev pub invariant-loop-i : goal.invariant-loop-i
 invariant-loop-i l = record {
-  few_common : l.common.len ≤ l.i;
-  few_left : l.left.len ≤ l.i;
-  common : Merging bit_and l.a l.b l.i l.k l.common;
-  left : Merging and_not l.a l.b l.i l.k l.left;
+  few_common : l.met ≤ l.i;
+  few_left : l.kept ≤ l.i;
+  common : Merging bit_and l.a l.b l.i l.k (record { len = l.met; windows = l.commons });
+  left : Merging and_not l.a l.b l.i l.k (record { len = l.kept; windows = l.lefts });
 }
 
 abbrev pub decreases-loop-i : goal.decreases-loop-i

@@ -14,15 +14,15 @@ pub shared_ref_as_front-w-items : goal.shared_ref_as_front-w-items
 shared_ref_as_front-w-items c = let t = (normal_fact c.args.s c.requires.s_value).tidy in omega (arith, t.short, t.whole)
 
 pub loop-w-init : goal.loop-w-init
-loop-w-init c = rw c.empty-set.ensures (walk_start (side_mask c.args.inside c.args.lo c.args.hi) (shown c.args.s))
+loop-w-init c = rw c.empty.ensures (walk_start (side_mask c.args.inside c.args.lo c.args.hi) (shown c.args.s))
 
 pub span_mask-requires-clause-q_bound : goal.span_mask-requires-clause-q_bound
 span_mask-requires-clause-q_bound c =
     let its : Normal c.args.s = normal_fact c.args.s c.requires.s_value in
     (nth 0 (shown c.args.s) c.loop-w.w-index its.rising (omega arith)).high
 
-pub push-requires : goal.push-requires
-push-requires c =
+pub put-len-requires : goal.put-len-requires
+put-len-requires c =
     let its : Normal c.args.s = normal_fact c.args.s c.requires.s_value in
     omega (arith, c.loop-w.invariant.few, shown_length c.args.s its.tidy, its.tidy.short)
 
@@ -32,17 +32,17 @@ loop-w-preserved c =
     let i = c.loop-w.w-index in
     let w = get_or (shown c.args.s) i zero_window in
     let k = c.span_mask.result in
-    let e : c.picked.result ≡ bit_and w.mask (side_mask c.args.inside c.args.lo c.args.hi w.index) =
-    c.picked.ensures ∙ side_picked c.args.inside w.mask k ((2 ^ 64 - 1) - k)
+    let e : c.picked-m.result ≡ bit_and w.mask (side_mask c.args.inside c.args.lo c.args.hi w.index) =
+    c.picked-m.ensures ∙ side_picked c.args.inside w.mask k ((2 ^ 64 - 1) - k)
     ∙ ap (λ (z : ℕ). bit_and w.mask (cond c.args.inside z ((2 ^ 64 - 1) - z))) c.span_mask.ensures in
-    rw c.push.ensures (walk_push (side_mask c.args.inside c.args.lo c.args.hi) (shown c.args.s) i c.loop-w.set (omega arith)
-    (omega (arith, shown_length c.args.s its.tidy, its.tidy.short)) c.loop-w.invariant c.picked.result e)
+    rw c.put-len.ensures (walk_push (side_mask c.args.inside c.args.lo c.args.hi) (shown c.args.s) i (record { len = c.loop-w.len; windows = c.loop-w.windows }) (omega arith)
+    (omega (arith, shown_length c.args.s its.tidy, its.tidy.short)) c.loop-w.invariant c.picked-m.result e)
 
 pub returns : goal.returns
 returns c =
     let s = c.args.s in
     let its : Normal s = normal_fact s c.requires.s_value in
     let g = side_mask c.args.inside c.args.lo c.args.hi in
-    is_set _ _ (walk_normal g s its c.loop-w.w-index c.loop-w.set (omega (arith, shown_length s its.tidy)) c.loop-w.invariant)
-    (λ p. walk_member g s its c.loop-w.w-index c.loop-w.set (omega (arith, shown_length s its.tidy)) c.loop-w.invariant p
+    is_set _ _ (walk_normal g s its c.loop-w.w-index (record { len = c.loop-w.len; windows = c.loop-w.windows }) (omega (arith, shown_length s its.tidy)) c.loop-w.invariant)
+    (λ p. walk_member g s its c.loop-w.w-index (record { len = c.loop-w.len; windows = c.loop-w.windows }) (omega (arith, shown_length s its.tidy)) c.loop-w.invariant p
     ∙ ap (λ (b : Bool). member s p && b) (side_page c.args.inside c.args.lo c.args.hi c.requires.lo_nonzero p))

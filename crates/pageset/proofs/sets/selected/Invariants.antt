@@ -5,4 +5,4 @@ use Rattle.pageset.proofs.MaskLaws.{Walked}
 use Rattle.pageset.proofs.sets.selected.Given as goal
 
 abbrev pub invariant-loop-w : goal.invariant-loop-w
-invariant-loop-w l = Walked (side_mask l.inside l.lo l.hi) l.w-items l.w-index l.set
+invariant-loop-w l = Walked (side_mask l.inside l.lo l.hi) l.w-items l.w-index (record { len = l.len; windows = l.windows })
