@@ -19,7 +19,7 @@ fn low_bits(k: u32) -> u64
     if k < 64 { (1u64 << k) - 1 } else { u64::MAX }
 }
 
-// The bits of window q that stand for pages up to n.
+// The bits of window q that stand for pages up to n. A window that lies whole up to n is told apart first: sets mostly have such windows, and they ask for no shift.
 fn up_to(q: u32, n: u32) -> u64
     requires { q < 67108864 }
     ensures { result ≡ up_to n q }
@@ -28,7 +28,11 @@ fn up_to(q: u32, n: u32) -> u64
     if n < base {
         return 0;
     }
-    low_bits((n - base).min(63) + 1)
+    let k = n - base;
+    if 63 <= k {
+        return u64::MAX;
+    }
+    low_bits(k + 1)
 }
 
 // The bits of window q that stand for pages from lo to hi.
