@@ -1,4 +1,7 @@
 // The calls on frames, each answer against the lists.
+ghost use Rattle.std.specs.Prelude.{◌≡◌};
+ghost use Rattle.plainframes.specs.Zeros.{range_or_zero, list_or_none};
+
 use crate::plain;
 use crate::plain::Plain;
 use basics::id::SegmentId;
@@ -22,6 +25,29 @@ pub fn is_found(a: Result<Option<SegmentRange>, Refusal>) -> bool {
     match a {
         Ok(Some(_)) => true,
         _ => false,
+    }
+}
+
+// The range of an answer; one of zeros where it holds none. A refusal and an answer without a range look alike then, so the comparisons here take the answer itself.
+pub fn range_or_zero(a: Result<Option<SegmentRange>, Refusal>) -> SegmentRange
+    ensures { result ≡ range_or_zero a }
+{
+    match a {
+        Ok(Some(r)) => r,
+        _ => SegmentRange::zero(),
+    }
+}
+
+// The frame list of an answer; no frame where it is refused. The comparisons here take `count` and `place`, which keep the number of a refusal.
+pub fn list_or_none(a: Result<FrameList, Refusal>) -> FrameList
+    ensures { result ≡ list_or_none a }
+{
+    match a {
+        Ok(list) => list,
+        Err(_) => FrameList {
+            len: 0,
+            frames: [SegmentRange::zero(); 16],
+        },
     }
 }
 
@@ -196,4 +222,59 @@ pub fn part(tally: &mut Tally, p: &Plain, page: u32, lent: &[u8]) {
     let got = frames::frame_bytes(p.segment(), PageIdx(page), lent);
     bytes(tally, p, page, lent.len());
     tally.same(got, part_of(p, page, lent));
+}
+
+#[cfg(test)]
+mod tests {
+    use super::*;
+    use pageset::{Window, sets};
+
+    // Range n of a segment: from byte n to byte 10, with the pages that are the bits of n in window 3.
+    fn piece(n: u64) -> SegmentRange {
+        let mut pages = sets::empty();
+        pages.len = 1;
+        pages.windows[0] = Window { index: 3, mask: n };
+        SegmentRange {
+            sid: [7; 16],
+            start: n,
+            end: 10,
+            pages,
+        }
+    }
+
+    // Whether a range is range n, in its segment, its bytes and its pages.
+    fn is_piece(r: SegmentRange, n: u64) -> bool {
+        let w = r.pages.windows[0];
+        let paged = r.pages.len == 1 && w.index == 3 && w.mask == n;
+        r.sid == [7; 16] && r.start == n && r.end == 10 && paged
+    }
+
+    // Whether all of a range is zero.
+    fn is_zero(r: SegmentRange) -> bool {
+        r.sid == [0; 16] && r.start == 0 && r.end == 0 && held::is_blank(r.pages)
+    }
+
+    // A range that is held is answered; where none is, and where the call is refused, zeros.
+    #[test]
+    fn range_held_or_zeros(rt: HostRuntime) {
+        assert!(rt; is_piece(range_or_zero(Ok(Some(piece(5)))), 5));
+        assert!(rt; is_zero(range_or_zero(Ok(None))));
+        assert!(rt; is_zero(range_or_zero(Err(Refusal::Form))));
+    }
+
+    // A frame list that is held is answered, each frame in its place; where the call is refused, none of its sixteen frames.
+    #[test]
+    fn list_held_or_none(rt: HostRuntime) {
+        let mut frames = [piece(1); 16];
+        frames[1] = piece(2);
+        frames[15] = piece(9);
+        let whole = list_or_none(Ok(FrameList { len: 16, frames }));
+        assert_eq!(rt; whole.len, 16);
+        assert!(rt; is_piece(whole.frames[0], 1));
+        assert!(rt; is_piece(whole.frames[1], 2));
+        assert!(rt; is_piece(whole.frames[15], 9));
+        let none = list_or_none(Err(Refusal::Form));
+        assert_eq!(rt; none.len, 0);
+        assert!(rt; none.frames.iter().all(|r| is_zero(*r)));
+    }
 }
